@@ -143,7 +143,7 @@ pub built-push : (m : ℕ → ℕ) (c e : ℕ) (rs : Rows) → Built m c rs → 
 unfolding put
 built-push m c e rs b h g = built-put m c e 1 rs b h g
 
-module _ (ra : ℕ → Row) (n : ℕ) (rb : ℕ → Row) (m room : ℕ) where
+module _ (cap : ℕ) (ra : ℕ → Row) (n : ℕ) (rb : ℕ → Row) (m room : ℕ) where
   abbrev weights : ℕ → ℕ
   weights z = union (at (span ra 0 n) z) (at (span rb 0 m) z)
 
@@ -168,7 +168,7 @@ module _ (ra : ℕ → Row) (n : ℕ) (rb : ℕ → Row) (m room : ℕ) where
 
   -- A STEP
   pub united-more : (i i′ j j′ k r e x y s t : ℕ) (row row′ : ℕ → Row) → Side ra n (e - 1) i′ x s → Side rb m (e - 1) j′ x t → x < y → y ≡ max s t
-      → United ra n i rb m j room row k e → Adds room row k e x y row′ r → i + j < i′ + j′ → y < 4294967296 → United ra n i′ rb m j′ room row′ r (max e (y + 1))
+      → United cap ra n i rb m j room row k e → Adds room row k e x y row′ r → i + j < i′ + j′ → y < cap → United cap ra n i′ rb m j′ room row′ r (max e (y + 1))
   unfolding union
   united-more i i′ j j′ k r e x y s t row row′ a b h q p d g o =
       let w = made-more row row′ k e x y r h (record { made = p .rows; built = record { joined = p .joined; tops = p .tops; below = p .below }; holds = p .holds }) d
@@ -187,7 +187,7 @@ module _ (ra : ℕ → Row) (n : ℕ) (rb : ℕ → Row) (m room : ℕ) where
         most = omega (arith, p .most);
       }
 
-  pub united-none : (row : ℕ → Row) → United ra n 0 rb m 0 room row 0 0
+  pub united-none : (row : ℕ → Row) → United cap ra n 0 rb m 0 room row 0 0
   unfolding span JoinedFrom top
   united-none row =
       record {
@@ -211,16 +211,16 @@ module _ (ra : ℕ → Row) (n : ℕ) (rb : ℕ → Row) (m room : ℕ) where
   ended-all row n c r z a = r .rest z a ∙ ap (λ (l : Rows). at l z) (span-none row n n (omega arith))
 
   -- THE END
-  pub united-all : (row : ℕ → Row) (k e : ℕ) → United ra n n rb m m room row k e → Holds room row k (combined union (span ra 0 n) (span rb 0 m))
+  pub united-all : (row : ℕ → Row) (k e : ℕ) → United cap ra n n rb m m room row k e → Holds room row k (combined union (span ra 0 n) (span rb 0 m))
   unfolding union
   united-all row k e p =
       subst (λ (t : Rows). Holds room row k t)
       (combination union refl (span ra 0 n) (span rb 0 m) (p .rows) (e - 1) (ended-all ra n (e - 1) (p .one)) (ended-all rb m (e - 1) (p .two)) (record { joined = p .joined; tops = p .tops; below = p .below }))
       (p .holds)
 
-pub united-swap : (ra : ℕ → Row) (n i : ℕ) (rb : ℕ → Row) (m j room : ℕ) (row : ℕ → Row) (k e : ℕ) → United ra n i rb m j room row k e → United rb m j ra n i room row k e
+pub united-swap : (cap : ℕ) (ra : ℕ → Row) (n i : ℕ) (rb : ℕ → Row) (m j room : ℕ) (row : ℕ → Row) (k e : ℕ) → United cap ra n i rb m j room row k e → United cap rb m j ra n i room row k e
 unfolding union
-united-swap ra n i rb m j room row k e p =
+united-swap cap ra n i rb m j room row k e p =
     record { one = p .two; two = p .one; last = p .last; rows = p .rows; joined = p .joined; tops = p .tops; below = λ z h. omega (arith, p .below z h); holds = p .holds; few = omega (arith, p .few); most = p .most }
 
 -- ## The steps of the loops
@@ -257,23 +257,23 @@ pair-within p q s t x i i′ j j′ s′ t′ y n m a b c = (
   ⊎-elim (λ h. omega (arith, c .two .off h)) (λ h. omega (arith, c .two .on h)) (split x q),
 )
 
-module _ (ra : ℕ → Row) (n : ℕ) (rb : ℕ → Row) (m room : ℕ) (u : (j : ℕ) → ra j .weight ≡ 1) (v : (j : ℕ) → rb j .weight ≡ 1)
+module _ (cap : ℕ) (ra : ℕ → Row) (n : ℕ) (rb : ℕ → Row) (m room : ℕ) (u : (j : ℕ) → ra j .weight ≡ 1) (v : (j : ℕ) → rb j .weight ≡ 1)
     (fa : (j : ℕ) → j < n → Links ra j) (fb : (j : ℕ) → j < m → Links rb j) where
   pub united-pair : (i j k e r x y i′ j′ s′ t′ f : ℕ) (row row′ : ℕ → Row) → i < n → j < m
       → Pair (ra i .start) (rb j .start) (ra i .end) (rb j .end) x i i′ j j′ s′ t′ y
-      → United ra n i rb m j room row k e → Adds room row k e x y row′ r → y < 4294967296 → f ≡ max e (y + 1) → United ra n i′ rb m j′ room row′ r f
+      → United cap ra n i rb m j room row k e → Adds room row k e x y row′ r → y < cap → f ≡ max e (y + 1) → United cap ra n i′ rb m j′ room row′ r f
   united-pair i j k e r x y i′ j′ s′ t′ f row row′ a b c p d o g =
-      subst (λ (w : ℕ). United ra n i′ rb m j′ room row′ r w) (sym g)
-      (united-more ra n rb m room i i′ j j′ k r e x y s′ t′ row row′
+      subst (λ (w : ℕ). United cap ra n i′ rb m j′ room row′ r w) (sym g)
+      (united-more cap ra n rb m room i i′ j j′ k r e x y s′ t′ row row′
       (side ra n u fa i (e - 1) x i′ s′ a (p .one) (omega (arith, c .least)) (c .one) (c .end₁))
       (side rb m v fb j (e - 1) x j′ t′ b (p .two) (omega (arith, c .least)) (c .two) (c .end₂))
       (pair-fills _ _ _ _ _ _ _ _ _ _ _ _ (fa i a .filled) (fb j b .filled) c) (c .most) p d (pair-moves _ _ _ _ _ _ _ _ _ _ _ _ c) o)
 
   pub united-rest : (i k e r x y f : ℕ) (row row′ : ℕ → Row) → i < n → x ≡ ra i .start → y ≡ ra i .end
-      → United ra n i rb m m room row k e → Adds room row k e x y row′ r → y < 4294967296 → f ≡ max e (y + 1) → United ra n (i + 1) rb m m room row′ r f
+      → United cap ra n i rb m m room row k e → Adds room row k e x y row′ r → y < cap → f ≡ max e (y + 1) → United cap ra n (i + 1) rb m m room row′ r f
   united-rest i k e r x y f row row′ a q s p d o g =
-      subst (λ (w : ℕ). United ra n (i + 1) rb m m room row′ r w) (sym g)
-      (united-more ra n rb m room i (i + 1) m m k r e x y (ra i .end) 0 row row′
+      subst (λ (w : ℕ). United cap ra n (i + 1) rb m m room row′ r w) (sym g)
+      (united-more cap ra n rb m room i (i + 1) m m k r e x y (ra i .end) 0 row row′
       (side ra n u fa i (e - 1) x (i + 1) (ra i .end) a (p .one) (omega arith) (record { on = λ _. refl; off = λ h. absurd (omega arith) }) (record { on = λ _. refl; off = λ h. absurd (omega arith) }))
       (side-none rb m v fb (e - 1) x (p .two))
       (omega (arith, fa i a .filled)) (omega arith) p d (omega arith) o)
@@ -294,16 +294,16 @@ pub less-left : (n m i j i′ j′ : ℕ) → i ≤ n → j ≤ m → i < n → 
 less-left n m i j i′ j′ a b c d = omega arith
 
 -- with no row of the right table left, or none of the left one
-pub rest-right : {ra rb row : ℕ → Row} {n i m j room k e : ℕ} → m ≤ j → United ra n i rb m j room row k e → United ra n i rb m m room row k e
-rest-right {ra} {rb} {row} {n} {i} {m} {j} {room} {k} {e} h p = subst (λ (v : ℕ). United ra n i rb m v room row k e) (let z : j ≡ m = omega (arith, p .two .within) in z) p
+pub rest-right : {ra rb row : ℕ → Row} {cap n i m j room k e : ℕ} → m ≤ j → United cap ra n i rb m j room row k e → United cap ra n i rb m m room row k e
+rest-right {ra} {rb} {row} {cap} {n} {i} {m} {j} {room} {k} {e} h p = subst (λ (v : ℕ). United cap ra n i rb m v room row k e) (let z : j ≡ m = omega (arith, p .two .within) in z) p
 
-pub rest-left : {ra rb row : ℕ → Row} {n i m j room k e : ℕ} → n ≤ i → United ra n i rb m j room row k e → United rb m j ra n n room row k e
-rest-left {ra} {rb} {row} {n} {i} {m} {j} {room} {k} {e} h p =
-    united-swap ra n n rb m j room row k e (subst (λ (v : ℕ). United ra n v rb m j room row k e) (let z : i ≡ n = omega (arith, p .one .within) in z) p)
+pub rest-left : {ra rb row : ℕ → Row} {cap n i m j room k e : ℕ} → n ≤ i → United cap ra n i rb m j room row k e → United cap rb m j ra n n room row k e
+rest-left {ra} {rb} {row} {cap} {n} {i} {m} {j} {room} {k} {e} h p =
+    united-swap cap ra n n rb m j room row k e (subst (λ (v : ℕ). United cap ra n v rb m j room row k e) (let z : i ≡ n = omega (arith, p .one .within) in z) p)
 
-pub rest-all : {ra rb row : ℕ → Row} {n i m room k e : ℕ} → n ≤ i → United ra n i rb m m room row k e → Holds room row k (combined union (span ra 0 n) (span rb 0 m))
-rest-all {ra} {rb} {row} {n} {i} {m} {room} {k} {e} h p =
-    united-all ra n rb m room row k e (subst (λ (v : ℕ). United ra n v rb m m room row k e) (let z : i ≡ n = omega (arith, p .one .within) in z) p)
+pub rest-all : {ra rb row : ℕ → Row} {cap n i m room k e : ℕ} → n ≤ i → United cap ra n i rb m m room row k e → Holds room row k (combined union (span ra 0 n) (span rb 0 m))
+rest-all {ra} {rb} {row} {cap} {n} {i} {m} {room} {k} {e} h p =
+    united-all cap ra n rb m room row k e (subst (λ (v : ℕ). United cap ra n v rb m m room row k e) (let z : i ≡ n = omega (arith, p .one .within) in z) p)
 
 pub holds-other : {room k : ℕ} {row : ℕ → Row} {a b : Rows} → a ≡ b → Holds room row k a → Holds room row k b
 holds-other {room} {k} {row} {a} {b} e h = subst (λ (t : Rows). Holds room row k t) e h

@@ -48,8 +48,8 @@ pub record Rest (row : ℕ → Row) (n i c : ℕ) : Type 0 where
   pub within : i ≤ n
   pub rest : (z : ℕ) → c ≤ z → at (span row 0 n) z ≡ at (span row i (n - i)) z
 
--- i rows of the one table and j of the other are passed: what was put out is joined and is the union below the end of its last row
-pub record United (ra : ℕ → Row) (n i : ℕ) (rb : ℕ → Row) (m j room : ℕ) (row : ℕ → Row) (k e : ℕ) : Type 0 where
+-- i rows of the one table and j of the other are passed, whose ends are below cap: what was put out is joined and is the union below the end of its last row
+pub record United (cap : ℕ) (ra : ℕ → Row) (n i : ℕ) (rb : ℕ → Row) (m j room : ℕ) (row : ℕ → Row) (k e : ℕ) : Type 0 where
   pub one : Rest ra n i (e - 1)
   pub two : Rest rb m j (e - 1)
   pub last : Last room row k e
@@ -59,4 +59,4 @@ pub record United (ra : ℕ → Row) (n i : ℕ) (rb : ℕ → Row) (m j room : 
   pub below : (z : ℕ) → z < e - 1 → at rows z ≡ union (at (span ra 0 n) z) (at (span rb 0 m) z)
   pub holds : Holds room row k rows
   pub few : k ≤ i + j
-  pub most : e ≤ 4294967296
+  pub most : e ≤ cap

@@ -1,0 +1,93 @@
+-- Id tables in lent slices, and what each routine promises. Document 01, "Tables", "Range operations" and "What a desk has received".
+use mathlib.Core.Path.{_≡_}
+use mathlib.Core.Logic.{_⊎_}
+use mathlib.Core.List.{List, [], _∷_, _++_, map}
+use mathlib.Core.Bool.{Bool, true, false}
+use Prim.Native.Nat.{ℕ, zero, suc, _-_, _≤_, _<_, min}
+use lib.ListN.{length, replicate}
+use Rattle.tables.specs.Limits.{rowLimit}
+use Rattle.tables.specs.Answers.{Answer, Gives, Tells, Says, saidMade, saidTold, saidCounted}
+use Rattle.tables.specs.declared.Made.{Made}
+use Rattle.tables.specs.declared.Told.{Told}
+use Rattle.tables.specs.declared.Counted.{Counted}
+use Rattle.ids.specs.Rows.{Row, row, Within, Holds, Joined, TableOf, union, difference, intersection}
+
+-- "in three lent slices of u64, u32 and u32"
+pub record Slices : Type 0 where
+  pub clients : List ℕ
+  pub starts : List ℕ
+  pub ends : List ℕ
+
+abbrev pub three : List ℕ → List ℕ → List ℕ → Slices
+three cs ss es = record { clients = cs; starts = ss; ends = es }
+
+-- a table as it lies in memory: "a count and rows"
+pub record Held : Type 0 where
+  pub slices : Slices
+  pub count : ℕ
+
+abbrev pub held : List ℕ → List ℕ → List ℕ → ℕ → Held
+held cs ss es n = record { slices = three cs ss es; count = n }
+
+abbrev pub rowsOf : ℕ → List ℕ → List ℕ → List ℕ → List Row
+rowsOf zero cs ss es = []
+rowsOf (suc n) [] ss es = []
+rowsOf (suc n) (c ∷ cs) [] es = []
+rowsOf (suc n) (c ∷ cs) (s ∷ ss) [] = []
+rowsOf (suc n) (c ∷ cs) (s ∷ ss) (e ∷ es) = row c s e ∷ rowsOf n cs ss es
+
+-- "Answers depend only on rows below the count."
+abbrev pub rows : Held → List Row
+rows h = rowsOf (h .count) (h .slices .clients) (h .slices .starts) (h .slices .ends)
+
+-- "as many rows as its shortest slice has elements"
+abbrev pub room : Slices → ℕ
+room o = min (length (o .clients)) (min (length (o .starts)) (length (o .ends)))
+
+-- "at most 1,024 in all"
+abbrev pub most : Slices → ℕ
+most o = min rowLimit (room o)
+
+-- well formed
+abbrev pub Table : Held → Type 0
+Table h = (h .count ≤ most (h .slices)) × Joined (rows h)
+
+-- a list in front, and zeros behind it
+abbrev pub padded : ℕ → List ℕ → List ℕ
+padded n l = l ++ replicate (n - length l) 0
+
+-- "the new table fills the front of the output and every later element of each output slice is zero"
+abbrev pub filled : List Row → Slices → Slices
+filled t o = record {
+  clients = padded (length (o .clients)) (map (λ (r : Row). r .client) t);
+  starts = padded (length (o .starts)) (map (λ (r : Row). r .start) t);
+  ends = padded (length (o .ends)) (map (λ (r : Row). r .end) t);
+}
+
+-- a routine that reads tables and writes another one
+abbrev pub Writes : Type 0 → (List Row → Type 0) → Slices → Slices → Made → Type 0
+Writes ok right o out r = Gives ok right (most o) (λ t. filled t o) out (saidMade r)
+
+abbrev pub Inserted : Held → Row → Slices → Slices → Made → Type 0
+Inserted a r = Writes (Table a) (TableOf (λ c k. Holds (rows a) c k ⊎ Within r c k))
+
+abbrev pub Merged : Held → Held → Slices → Slices → Made → Type 0
+Merged a b = Writes (Table a × Table b) (TableOf (union (rows a) (rows b)))
+
+abbrev pub Diffed : Held → Held → Slices → Slices → Made → Type 0
+Diffed a b = Writes (Table a × Table b) (TableOf (difference (rows a) (rows b)))
+
+abbrev pub Intersected : Held → Held → Slices → Slices → Made → Type 0
+Intersected a b = Writes (Table a × Table b) (TableOf (intersection (rows a) (rows b)))
+
+-- "Captures (added by us) are unchanged copies"
+abbrev pub Captured : Held → Slices → Slices → Made → Type 0
+Captured a = Writes (Table a) (λ t. t ≡ rows a)
+
+-- membership
+abbrev pub Contains : Held → ℕ → ℕ → Told → Type 0
+Contains a c k r = Tells (Table a) (Says (Holds (rows a) c k)) false (saidTold r)
+
+-- "its `is_empty` says whether it has no row"
+abbrev pub Empty : Held → Told → Type 0
+Empty a r = Tells (Table a) (Says (rows a ≡ [])) false (saidTold r)
