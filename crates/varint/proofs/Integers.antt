@@ -30,7 +30,7 @@ abbrev pub SignedBits : (at : ℕ) → List ℕ → (acc s p : ℕ) → Type 0
 SignedBits at xs acc s p = Going tenth 69 64 at xs (readBy signed xs at) acc s p
 
 -- the first byte's six bits, at shift 0
-first-joined : (b : ℕ) → joined 64 0 0 (b % 64) ≡ b % 64
+pub first-joined : (b : ℕ) → joined 64 0 0 (b % 64) ≡ b % 64
 first-joined b = or-zero-l _ ∙ ap (λ (x : ℕ). x % 2 ^ 64) (mul-one (b % 64)) ∙ mod-eq-of-lt (omega arith)
 
 module _ (at : ℕ) (xs : List ℕ) where
@@ -142,7 +142,7 @@ length-int v f e h = h ∙ rw (e, toZ-ofZ f) (sym (sign-length (ltZ v (pos 0)) (
 pub ruleset sizes = (one-more-fits, below-zero, not-below-zero, length-int, needs)
 
 -- The writer puts a first byte, with the sign's bit f, and the bytes of the rest of the magnitude.
-flag-small : (b : Bool) → cond b 64 0 ≤ 64
+pub flag-small : (b : Bool) → cond b 64 0 ≤ 64
 flag-small true = omega arith
 flag-small false = omega arith
 
