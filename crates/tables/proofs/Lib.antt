@@ -14,3 +14,4 @@ pub mod Uniting
 pub mod Crossing
 pub mod Zeroing
 pub mod Sets
+pub mod Differing
