@@ -4,11 +4,12 @@ ghost use Prim.Native.Nat.{ℕ, _+_, _-_, _*_, _<_, _≤_, min, max};
 ghost use lib.ListN.{length};
 ghost use Rattle.tables.specs.Answers.{Says};
 ghost use Rattle.tables.specs.Limits.{rowLimit};
-ghost use Rattle.tables.specs.Inner.Rows.{Rows, combined, union, intersection};
+ghost use Rattle.tables.specs.Inner.Rows.{Rows, combined, union, difference, intersection};
 ghost use Rattle.tables.specs.Inner.Sweep.{Holds};
 ghost use Rattle.tables.specs.Inner.Unite.{Passed, Ended, Counted, Starts, Ends, Last, Adds, United};
 ghost use Rattle.tables.specs.Inner.Cross.{Keeps};
-ghost use Rattle.ranges.specs.Tables.{most, Merged, Intersected};
+ghost use Rattle.tables.specs.Inner.Differ.{GapStart, GapEnd};
+ghost use Rattle.ranges.specs.Tables.{most, Merged, Excluded, Intersected};
 ghost use Rattle.ranges.specs.Inner.{rowAt, rowsOf, Ruled, Wrote};
 
 // An index, or none, or why there is no answer.
@@ -271,6 +272,50 @@ fn cross(a: &[u32], n: usize, b: &[u32], m: usize, out: &mut [u32], most: usize)
     k
 }
 
+// Where the gap before row `j` starts: behind the row before.
+fn gap_start(b: &[u32], j: usize) -> u32
+    requires { ⌜ 2 * j ≤ length (now b) ⌝ }
+    ensures { λ r. ⌜ GapStart (rowAt (now (b .entry))) j r ⌝ }
+{
+    if j == 0 {
+        return 0;
+    }
+    end_at(b, j - 1)
+}
+
+// Where the gap before row `j` ends. Behind the last of the `m` rows there is a gap too.
+fn gap_end(b: &[u32], m: usize, j: usize) -> u32
+    requires { ⌜ 2 * m ≤ length (now b) ⌝ }
+    ensures { λ r. ⌜ GapEnd 4294967295 (rowAt (now (b .entry))) m j r ⌝ }
+{
+    if j < m {
+        return start_at(b, j);
+    }
+    4294967295
+}
+
+// The rows of the difference, a row a step: those of the intersection of `a` with the gaps of `b`. While a row is left, so is a gap.
+fn differ(a: &[u32], n: usize, b: &[u32], m: usize, out: &mut [u32], most: usize) -> usize
+    requires { ⌜ Ruled (now a) n ⌝ }
+    requires { ⌜ Ruled (now b) m ⌝ }
+    requires { ⌜ 2 * most ≤ length (now out) ⌝ }
+    ensures { λ r. ⌜ Holds most (rowAt (now (out .exit))) r (combined difference (rowsOf (now (a .entry)) n) (rowsOf (now (b .entry)) m)) ⌝ }
+{
+    let mut i: usize = 0;
+    let mut j: usize = 0;
+    let mut k: usize = 0;
+    while i < n {
+        let p = end_at(a, i);
+        let q = gap_end(b, m, j);
+        let x = higher(start_at(a, i), gap_start(b, j));
+        let y = lower(p, q);
+        i = passed(i, p, y);
+        j = passed(j, q, y);
+        k = keep(out, most, k, x, y);
+    }
+    k
+}
+
 // Union.
 pub fn merge(a: &[u32], n: usize, b: &[u32], m: usize, out: &mut [u32]) -> tables::Made
     ensures { λ r. ⌜ Merged (now (a .entry)) n (now (b .entry)) m (length (now (out .entry))) (now (out .exit)) r ⌝ }
@@ -281,6 +326,19 @@ pub fn merge(a: &[u32], n: usize, b: &[u32], m: usize, out: &mut [u32]) -> table
     }
     let most = room(out.len());
     let k = unite(a, n, b, m, out, most);
+    finish(out, k)
+}
+
+// Difference.
+pub fn exclude(a: &[u32], n: usize, b: &[u32], m: usize, out: &mut [u32]) -> tables::Made
+    ensures { λ r. ⌜ Excluded (now (a .entry)) n (now (b .entry)) m (length (now (out .entry))) (now (out .exit)) r ⌝ }
+{
+    if !both(a, n, b, m) {
+        tables::zero(out);
+        return tables::Made::Refused(varint::Refusal::Malformed);
+    }
+    let most = room(out.len());
+    let k = differ(a, n, b, m, out, most);
     finish(out, k)
 }
 
