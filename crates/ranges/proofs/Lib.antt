@@ -4,3 +4,4 @@ pub mod Flat
 pub mod Writing
 pub mod Stores
 pub mod Looking
+pub mod Asking

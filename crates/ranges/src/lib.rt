@@ -4,12 +4,12 @@ ghost use Prim.Native.Nat.{ℕ, _+_, _-_, _*_, _<_, _≤_, min, max};
 ghost use lib.ListN.{length};
 ghost use Rattle.tables.specs.Answers.{Says};
 ghost use Rattle.tables.specs.Limits.{rowLimit};
-ghost use Rattle.tables.specs.Inner.Rows.{Rows, combined, union, difference, intersection};
+ghost use Rattle.tables.specs.Inner.Rows.{Rows, at, span, combined, union, difference, intersection};
 ghost use Rattle.tables.specs.Inner.Sweep.{Holds};
 ghost use Rattle.tables.specs.Inner.Unite.{Passed, Ended, Counted, Starts, Ends, Last, Adds, United};
 ghost use Rattle.tables.specs.Inner.Cross.{Keeps};
 ghost use Rattle.tables.specs.Inner.Differ.{GapStart, GapEnd};
-ghost use Rattle.ranges.specs.Tables.{most, Merged, Excluded, Intersected};
+ghost use Rattle.ranges.specs.Tables.{most, Merged, Excluded, Intersected, ContainsClock, ClockStart, ClockEnd, Len, IsEmpty, Get};
 ghost use Rattle.ranges.specs.Inner.{rowAt, rowsOf, Ruled, Wrote};
 
 // An index, or none, or why there is no answer.
@@ -314,6 +314,104 @@ fn differ(a: &[u32], n: usize, b: &[u32], m: usize, out: &mut [u32], most: usize
         k = keep(out, most, k, x, y);
     }
     k
+}
+
+// Whether one of the rows lo, .., hi - 1 holds `x`: each look halves the rows still possible.
+fn search(t: &[u32], n: usize, lo: usize, hi: usize, x: u32) -> bool
+    requires { ⌜ Ruled (now t) n ⌝ }
+    requires { ⌜ hi ≤ n ⌝ }
+    ensures { λ r. ⌜ Says (0 < at (span (rowAt (now (t .entry))) lo (hi - lo)) x) r ⌝ }
+{
+    if hi <= lo {
+        return false;
+    }
+    let mid = (lo + (hi - 1)) / 2;
+    if end_at(t, mid) <= x {
+        return search(t, n, mid + 1, hi, x);
+    }
+    if x < start_at(t, mid) {
+        return search(t, n, lo, mid, x);
+    }
+    true
+}
+
+// Whether the table holds the clock.
+pub fn contains_clock(t: &[u32], n: usize, clock: tables::Clock) -> tables::Told
+    ensures { λ r. ⌜ ContainsClock (now (t .entry)) n (clock .0) r ⌝ }
+{
+    if !well_formed(t, n) {
+        return tables::Told::Refused(varint::Refusal::Malformed);
+    }
+    let x = clock.0;
+    if search(t, n, 0, n, x) {
+        return tables::Told::Yes;
+    }
+    tables::Told::No
+}
+
+// The first start.
+pub fn clock_start(t: &[u32], n: usize) -> Edge
+    ensures { λ r. ⌜ ClockStart (now (t .entry)) n r ⌝ }
+{
+    if !well_formed(t, n) {
+        return Edge::Refused(varint::Refusal::Malformed);
+    }
+    if n == 0 {
+        return Edge::Nothing;
+    }
+    Edge::At(tables::Clock(start_at(t, 0)))
+}
+
+// The last end.
+pub fn clock_end(t: &[u32], n: usize) -> Edge
+    ensures { λ r. ⌜ ClockEnd (now (t .entry)) n r ⌝ }
+{
+    if !well_formed(t, n) {
+        return Edge::Refused(varint::Refusal::Malformed);
+    }
+    if n == 0 {
+        return Edge::Nothing;
+    }
+    Edge::At(tables::Clock(end_at(t, n - 1)))
+}
+
+// How many rows the table has.
+pub fn len(t: &[u32], n: usize) -> tables::Counted
+    ensures { λ r. ⌜ Len (now (t .entry)) n r ⌝ }
+{
+    if !well_formed(t, n) {
+        return tables::Counted::Refused(varint::Refusal::Malformed);
+    }
+    tables::Counted::Is(n)
+}
+
+// Whether the table has no row.
+pub fn is_empty(t: &[u32], n: usize) -> tables::Told
+    ensures { λ r. ⌜ IsEmpty (now (t .entry)) n r ⌝ }
+{
+    if !well_formed(t, n) {
+        return tables::Told::Refused(varint::Refusal::Malformed);
+    }
+    if n == 0 {
+        return tables::Told::Yes;
+    }
+    tables::Told::No
+}
+
+// The row at an index.
+pub fn get(t: &[u32], n: usize, index: usize) -> Found
+    ensures { λ r. ⌜ Get (now (t .entry)) n index r ⌝ }
+{
+    if !well_formed(t, n) {
+        return Found::Refused(varint::Refusal::Malformed);
+    }
+    if n <= index {
+        return Found::Nothing;
+    }
+    Found::Row(
+        tables::Clock(start_at(t, index)),
+        tables::Clock(end_at(t, index)),
+    )
 }
 
 // Union.
