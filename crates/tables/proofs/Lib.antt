@@ -13,3 +13,4 @@ pub mod Finding
 pub mod Uniting
 pub mod Crossing
 pub mod Zeroing
+pub mod Inserting
