@@ -11,7 +11,7 @@ use lib.Dec.{leb, ltb}
 use lib.ListN.{length, length-append}
 use borrow.Author.Tests.{lt-ltb, le-ltb}
 use Rattle.tables.specs.Inner.Rows.{Row, Rows, at, JoinedFrom, Joined, combined, union, difference, span, Follows}
-use Rattle.tables.specs.Inner.Edit.{Plain, range, Parted, starts, ends, Edges}
+use Rattle.tables.specs.Inner.Edit.{Plain, range, Parted, starts, ends, Starting, Ending}
 use Rattle.tables.proofs.Joining.{split, at-here, at-past, at-before}
 use Rattle.tables.proofs.Meaning.{combined-only}
 use Rattle.tables.proofs.Pushing.{piece}
@@ -96,7 +96,7 @@ module _ (row : ℕ → Row) where
   unfolding at
   span-holds-none a k x f = ap (λ (l : Rows). at l x) (sym (append-nil (span row a k))) ∙ span-out a k [] x f
 
-  span-append : (a k m : ℕ) → span row a (k + m) ≡ span row a k ++ span row (a + k) m
+  pub span-append : (a k m : ℕ) → span row a (k + m) ≡ span row a k ++ span row (a + k) m
   unfolding span
   span-append a zero m = ap (span row a) (let z : 0 + m ≡ m = omega arith in z) ∙ ap (λ (j : ℕ). span row j m) (sym (add-zero a))
   span-append a (suc k) m = ap (span row a) (let z : suc k + m ≡ suc (k + m) = omega arith in z) ∙ ap (λ (l : Rows). row a ∷ l) (span-append (suc a) k m ∙ ap (λ (j : ℕ). span row (suc a) k ++ span row j m) (let z : suc a + k ≡ a + suc k = omega arith in z))
@@ -192,26 +192,26 @@ module _ (row : ℕ → Row) (n : ℕ) (t : Plain row n) where
 
   -- what the places found say
   cut : (s e lo hi i j p q : ℕ) → s < e → s ≤ lo → lo ≤ s + 1 → e ≤ hi → hi ≤ e + 1 → i ≤ j
-      → Parted (ends row) n lo i i → Parted (starts row) n hi j j → Edges row n s e i j p q → Cut row n s e i j p q
-  cut s e lo hi i j p q h a b c d o u v g =
+      → Parted (ends row) n lo i i → Parted (starts row) n hi j j → Starting row n i s p → Ending row j e q → Cut row n s e i j p q
+  cut s e lo hi i j p q h a b c d o u v a₀ b₀ =
       record {
         order = o;
         within = v .within;
         front = λ k l. front k l;
         back = λ k l m. back k l m;
-        ended = λ k l m. omega (arith, apart-to k i l m, g .left m);
-        behind = λ l m. omega (arith, g .right (j - 1) (let e : suc (j - 1) ≡ j = omega arith in e), apart-to (j - 1) j (omega arith) m);
+        ended = λ k l m. omega (arith, apart-to k i l m, a₀ .here m);
+        behind = λ l m. omega (arith, b₀ .here (j - 1) (let e : suc (j - 1) ≡ j = omega arith in e), apart-to (j - 1) j (omega arith) m);
         inside = λ k l m. inside k l m;
         none-before = λ x l. none x (λ k f m. inl (omega (arith, inside k f m .0)));
         none-past = λ x l. none x (λ k f m. inr (omega (arith, inside k f m .1)));
-        left = λ x l m. let y : i < n = ⊎-elim (λ z. z) (λ z. absurd (omega (arith, g .leftmost z))) (split i n) in left x l m y;
-        right = λ x l m. ⊎-elim (λ z. right x l m (j - 1) (let y : suc (j - 1) ≡ j = omega arith in y)) (λ z. absurd (omega (arith, g .rightmost (let y : j ≡ 0 = omega arith in y)))) (split 0 j);
+        left = λ x l m. let y : i < n = ⊎-elim (λ z. z) (λ z. absurd (omega (arith, a₀ .none z))) (split i n) in left x l m y;
+        right = λ x l m. ⊎-elim (λ z. right x l m (j - 1) (let y : suc (j - 1) ≡ j = omega arith in y)) (λ z. absurd (omega (arith, b₀ .none (let y : j ≡ 0 = omega arith in y)))) (split 0 j);
       }
     where
       front : (k : ℕ) → k < i → (row k .end ≤ s) × (row k .end ≤ p)
       front k l =
           let y : row k .end < lo = ended-before lo i k u l in
-          (omega arith, ⊎-elim (λ z. omega (arith, apart-to k i l z, g .left z)) (λ z. omega (arith, g .leftmost z)) (split i n))
+          (omega arith, ⊎-elim (λ z. omega (arith, apart-to k i l z, a₀ .here z)) (λ z. omega (arith, a₀ .none z)) (split i n))
 
       back : (k : ℕ) → j ≤ k → k < n → (e ≤ row k .start) × (q ≤ row k .start)
       back k l m =
@@ -219,16 +219,16 @@ module _ (row : ℕ → Row) (n : ℕ) (t : Plain row n) where
           (λ z. omega (arith, apart-to j k z m, t .ruled j (omega arith) .filled))
           (λ z. let e : j ≡ k = omega arith in omega (arith, ap (λ (w : ℕ). row w .start) e)) (split j k) in (
             omega (arith, v .above (omega arith)),
-            ⊎-elim (λ z. omega (arith, g .right (j - 1) (let e : suc (j - 1) ≡ j = omega arith in e), apart-to (j - 1) k (omega arith) m))
-                (λ z. omega (arith, g .rightmost (let e : j ≡ 0 = omega arith in e), v .above (omega arith))) (split 0 j),
+            ⊎-elim (λ z. omega (arith, b₀ .here (j - 1) (let e : suc (j - 1) ≡ j = omega arith in e), apart-to (j - 1) k (omega arith) m))
+                (λ z. omega (arith, b₀ .none (let e : j ≡ 0 = omega arith in e), v .above (omega arith))) (split 0 j),
           )
 
       inside : (k : ℕ) → i ≤ k → k < j → (p ≤ row k .start) × (row k .end ≤ q)
       inside k l m = (
-        ⊎-elim (λ z. omega (arith, apart-to i k z (omega (arith, v .within)), g .left (omega (arith, v .within)), t .ruled i (omega (arith, v .within)) .filled))
-            (λ z. let e : i ≡ k = omega arith in omega (arith, ap (λ (w : ℕ). row w .start) e, g .left (omega (arith, v .within)))) (split i k),
-        ⊎-elim (λ z. omega (arith, apart-to k (j - 1) z (omega (arith, v .within)), g .right (j - 1) (let e : suc (j - 1) ≡ j = omega arith in e), t .ruled (j - 1) (omega (arith, v .within)) .filled))
-            (λ z. omega (arith, g .right k (let e : suc k ≡ j = omega arith in e))) (split k (j - 1)),
+        ⊎-elim (λ z. omega (arith, apart-to i k z (omega (arith, v .within)), a₀ .here (omega (arith, v .within)), t .ruled i (omega (arith, v .within)) .filled))
+            (λ z. let e : i ≡ k = omega arith in omega (arith, ap (λ (w : ℕ). row w .start) e, a₀ .here (omega (arith, v .within)))) (split i k),
+        ⊎-elim (λ z. omega (arith, apart-to k (j - 1) z (omega (arith, v .within)), b₀ .here (j - 1) (let e : suc (j - 1) ≡ j = omega arith in e), t .ruled (j - 1) (omega (arith, v .within)) .filled))
+            (λ z. omega (arith, b₀ .here k (let e : suc k ≡ j = omega arith in e))) (split k (j - 1)),
       )
 
       none : (x : ℕ) → ((k : ℕ) → i ≤ k → k < j → (x < row k .start) ⊎ (row k .end ≤ x)) → at (span row i (j - i)) x ≡ 0
@@ -236,13 +236,13 @@ module _ (row : ℕ → Row) (n : ℕ) (t : Plain row n) where
 
       left : (x : ℕ) → p ≤ x → x < s → i < n → at (span row i (j - i)) x ≡ 1
       left x l m y =
-          let z : i < j = ⊎-elim (λ z. z) (λ z. let w : j ≡ i = omega arith in absurd (omega (arith, ap (λ (k : ℕ). row k .start) w, v .above (omega arith), g .left y))) (split i j) in
-          hit x i j i (v .within) (omega arith) z (omega (arith, g .left y)) (omega (arith, u .above y))
+          let z : i < j = ⊎-elim (λ z. z) (λ z. let w : j ≡ i = omega arith in absurd (omega (arith, ap (λ (k : ℕ). row k .start) w, v .above (omega arith), a₀ .here y))) (split i j) in
+          hit x i j i (v .within) (omega arith) z (omega (arith, a₀ .here y)) (omega (arith, u .above y))
 
       right : (x : ℕ) → e ≤ x → x < q → (k : ℕ) → suc k ≡ j → at (span row i (j - i)) x ≡ 1
       right x l m k y =
-          let z : i ≤ k = ⊎-elim (λ z. absurd (omega (arith, u .below k (let w : suc k ≡ i = omega arith in w), g .right k y))) (λ z. z) (split k i) in
-          hit x i j k (v .within) z (omega arith) (omega (arith, v .below k y)) (omega (arith, g .right k y))
+          let z : i ≤ k = ⊎-elim (λ z. absurd (omega (arith, u .below k (let w : suc k ≡ i = omega arith in w), b₀ .here k y))) (λ z. z) (split k i) in
+          hit x i j k (v .within) z (omega arith) (omega (arith, v .below k y)) (omega (arith, b₀ .here k y))
 
 -- ## Other rows in their place
 
@@ -306,7 +306,7 @@ module _ (row : ℕ → Row) (n s e i j p q : ℕ) (h : s < e) (c : Cut row n s 
   spliced : Joined (span row 0 i ++ (mid ++ span row j (n - j))) → span row 0 i ++ (mid ++ span row j (n - j)) ≡ combined f (span row 0 n) (range s e)
   spliced w = combined-only f z (span row 0 n) (range s e) _ w (λ x. spliced-at x ∙ ap (λ (l : Rows). f (at (span row 0 n) x) (at l x)) (append-nil (range s e)))
 
-module _ (row : ℕ → Row) (n : ℕ) (t : Plain row n) (s e i j p q : ℕ) (h : s < e) (o : i ≤ j) (g : Edges row n s e i j p q) where
+module _ (row : ℕ → Row) (n : ℕ) (t : Plain row n) (s e i j p q : ℕ) (h : s < e) (o : i ≤ j) (a₀ : Starting row n i s p) (b₀ : Ending row j e q) where
   -- INSERT: i rows end before s, j rows start at e or before; one row stands in the place of those between
   pub inserted : Parted (ends row) n s i i → Parted (starts row) n (e + 1) j j
       → span row 0 i ++ (range (min p s) (max e q) ++ span row j (n - j)) ≡ combined union (span row 0 n) (range s e)
@@ -317,14 +317,14 @@ module _ (row : ℕ → Row) (n : ℕ) (t : Plain row n) (s e i j p q : ℕ) (h 
       (front-joined row n t (min p s) _ from 0 i 0 0 (omega (arith, u .within)) (λ k a b. omega (arith, first k (omega arith))) (λ _. omega arith) (λ _ _ k. omega (arith, t .unit 0)) (λ _. omega arith) (λ _ _ k. omega arith))
     where
       c : Cut row n s e i j p q
-      c = cut row n t s e s (e + 1) i j p q h (omega arith) (omega arith) (omega arith) (omega arith) o u v g
+      c = cut row n t s e s (e + 1) i j p q h (omega arith) (omega arith) (omega arith) (omega arith) o u v a₀ b₀
 
       first : (k : ℕ) → k < i → row k .end < min p s
-      first k l = ⊎-elim (λ m. omega (arith, c .ended k l m, ended-before row n t s i k u l)) (λ m. omega (arith, g .leftmost m, ended-before row n t s i k u l)) (split i n)
+      first k l = ⊎-elim (λ m. omega (arith, c .ended k l m, ended-before row n t s i k u l)) (λ m. omega (arith, a₀ .none m, ended-before row n t s i k u l)) (split i n)
 
       next : j < n → (0 < j) ⊎ (j ≤ 0) → max e q + 1 ≤ row j .start
       next l (inl m) = omega (arith, v .above l, c .behind m l)
-      next l (inr m) = omega (arith, v .above l, g .rightmost (let y : j ≡ 0 = omega arith in y))
+      next l (inr m) = omega (arith, v .above l, b₀ .none (let y : j ≡ 0 = omega arith in y))
 
       from : From (min p s) (range (min p s) (max e q) ++ span row j (n - j))
       from = from-range _ _ _ _ (λ _. omega arith) (λ _. from-back row n t _ j (v .within) (λ l. next l (split 0 j))) (λ l. absurd (omega arith))
@@ -349,17 +349,17 @@ module _ (row : ℕ → Row) (n : ℕ) (t : Plain row n) (s e i j p q : ℕ) (h 
       (subst (λ (l : Rows). Joined (span row 0 i ++ l)) (sym (append-assoc (range p s) (range e q) _)) (⊎-elim joined₁ joined₂ (split p s)))
     where
       c : Cut row n s e i j p q
-      c = cut row n t s e (s + 1) e i j p q h (omega arith) (omega arith) (omega arith) (omega arith) o u v g
+      c = cut row n t s e (s + 1) e i j p q h (omega arith) (omega arith) (omega arith) (omega arith) o u v a₀ b₀
 
       back : From (s + 1) (range e q ++ span row j (n - j))
-      back = from-range _ _ _ _ (λ _. omega arith) (λ m. from-back row n t _ j (v .within) (λ l. omega (arith, c .behind (⊎-elim (λ k. k) (λ k. absurd (omega (arith, g .rightmost (let y : j ≡ 0 = omega arith in y)))) (split 0 j)) l)))
+      back = from-range _ _ _ _ (λ _. omega arith) (λ m. from-back row n t _ j (v .within) (λ l. omega (arith, c .behind (⊎-elim (λ k. k) (λ k. absurd (omega (arith, b₀ .none (let y : j ≡ 0 = omega arith in y)))) (split 0 j)) l)))
           (λ m. from-back row n t _ j (v .within) (λ l. omega (arith, v .above l)))
 
       joined : (d : ℕ) → ((k : ℕ) → k < i → row k .end < d) → From d (range p s ++ (range e q ++ span row j (n - j))) → Joined (span row 0 i ++ (range p s ++ (range e q ++ span row j (n - j))))
       joined d a b = front-joined row n t d _ b 0 i 0 0 (omega (arith, u .within)) (λ k _ l. a k (omega arith)) (λ _. omega arith) (λ _ _ k. omega (arith, t .unit 0)) (λ _. omega arith) (λ _ _ k. omega arith)
 
       joined₁ : p < s → Joined (span row 0 i ++ (range p s ++ (range e q ++ span row j (n - j))))
-      joined₁ m = joined p (λ k l. c .ended k l (⊎-elim (λ d. d) (λ d. absurd (omega (arith, g .leftmost d))) (split i n)))
+      joined₁ m = joined p (λ k l. c .ended k l (⊎-elim (λ d. d) (λ d. absurd (omega (arith, a₀ .none d))) (split i n)))
           (from-range _ _ _ _ (λ _. omega arith) (λ _. back) (λ l. absurd (omega arith)))
 
       joined₂ : s ≤ p → Joined (span row 0 i ++ (range p s ++ (range e q ++ span row j (n - j))))

@@ -13,4 +13,6 @@ pub mod Finding
 pub mod Uniting
 pub mod Crossing
 pub mod Zeroing
+pub mod Sets
 pub mod Inserting
+pub mod Placing
