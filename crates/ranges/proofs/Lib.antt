@@ -3,5 +3,6 @@ pub mod Plain
 pub mod Flat
 pub mod Writing
 pub mod Stores
+pub mod Moving
 pub mod Looking
 pub mod Asking

@@ -1,6 +1,7 @@
 // Range tables: rows (start, end) in a lent slice of u32, as start, end, start, end, with a count.
 ghost use mathlib.Core.Path.{_≡_};
 ghost use Prim.Native.Nat.{ℕ, _+_, _-_, _*_, _<_, _≤_, min, max};
+ghost use mathlib.Core.List.{_++_};
 ghost use lib.ListN.{length};
 ghost use Rattle.tables.specs.Answers.{Says};
 ghost use Rattle.tables.specs.Limits.{rowLimit};
@@ -9,7 +10,8 @@ ghost use Rattle.tables.specs.Inner.Sweep.{Holds};
 ghost use Rattle.tables.specs.Inner.Unite.{Passed, Ended, Counted, Starts, Ends, Last, Adds, United};
 ghost use Rattle.tables.specs.Inner.Cross.{Keeps};
 ghost use Rattle.tables.specs.Inner.Differ.{GapStart, GapEnd};
-ghost use Rattle.ranges.specs.Tables.{most, Merged, Excluded, Intersected, ContainsClock, ClockStart, ClockEnd, Len, IsEmpty, Get};
+ghost use Rattle.tables.specs.Inner.Edit.{range, Parted, starts, ends, Starting, Ending, Moved, Stands};
+ghost use Rattle.ranges.specs.Tables.{most, Merged, Excluded, Intersected, ContainsClock, FindStart, ClockStart, ClockEnd, Len, IsEmpty, Get};
 ghost use Rattle.ranges.specs.Inner.{rowAt, rowsOf, Ruled, Wrote};
 
 // An index, or none, or why there is no answer.
@@ -349,6 +351,21 @@ pub fn contains_clock(t: &[u32], n: usize, clock: tables::Clock) -> tables::Told
     tables::Told::No
 }
 
+// The first row whose end exceeds the clock.
+pub fn find_start(t: &[u32], n: usize, clock: tables::Clock) -> Place
+    ensures { λ r. ⌜ FindStart (now (t .entry)) n (clock .0) r ⌝ }
+{
+    if !well_formed(t, n) {
+        return Place::Refused(varint::Refusal::Malformed);
+    }
+    let x = clock.0;
+    let i = ends_below(t, n, x as u64 + 1);
+    if n <= i {
+        return Place::Nothing;
+    }
+    Place::At(i)
+}
+
 // The first start.
 pub fn clock_start(t: &[u32], n: usize) -> Edge
     ensures { λ r. ⌜ ClockStart (now (t .entry)) n r ⌝ }
@@ -450,5 +467,136 @@ pub fn intersect(a: &[u32], n: usize, b: &[u32], m: usize, out: &mut [u32]) -> t
     }
     let most = room(out.len());
     let k = cross(a, n, b, m, out, most);
+    finish(out, k)
+}
+
+// ## Insert, remove and from_ranges: the rows that the range meets are found by halving, the others are copied or moved.
+
+// How many rows end below `x`.
+fn ends_below(t: &[u32], n: usize, x: u64) -> usize
+    requires { ⌜ 2 * n ≤ length (now t) ⌝ }
+    ensures { λ r. ⌜ Parted (ends (rowAt (now (t .entry)))) n x r r ⌝ }
+{
+    let mut lo: usize = 0;
+    let mut hi: usize = n;
+    while lo < hi {
+        let mid = lo + (hi - lo) / 2;
+        if (end_at(t, mid) as u64) < x {
+            lo = mid + 1;
+        } else {
+            hi = mid;
+        }
+    }
+    lo
+}
+
+// How many rows start below `x`, where the first `i` do.
+fn starts_below(t: &[u32], n: usize, i: usize, x: u64) -> usize
+    requires { ⌜ 2 * n ≤ length (now t) ⌝ }
+    requires { ⌜ Parted (starts (rowAt (now t))) n x i n ⌝ }
+    ensures { λ r. ⌜ Parted (starts (rowAt (now (t .entry)))) n x r r ⌝ }
+    ensures { λ r. ⌜ i ≤ r ⌝ }
+{
+    let mut lo: usize = i;
+    let mut hi: usize = n;
+    while lo < hi {
+        let mid = lo + (hi - lo) / 2;
+        if (start_at(t, mid) as u64) < x {
+            lo = mid + 1;
+        } else {
+            hi = mid;
+        }
+    }
+    lo
+}
+
+// The start of row `i`, or `s` where there is no such row.
+fn start_or(t: &[u32], n: usize, i: usize, s: u32) -> u32
+    requires { ⌜ 2 * n ≤ length (now t) ⌝ }
+    ensures { λ r. ⌜ Starting (rowAt (now (t .entry))) n i s r ⌝ }
+{
+    if n <= i {
+        return s;
+    }
+    start_at(t, i)
+}
+
+// The end of the row before `j`, or `e` where there is none.
+fn end_or(t: &[u32], j: usize, e: u32) -> u32
+    requires { ⌜ 2 * j ≤ length (now t) ⌝ }
+    ensures { λ r. ⌜ Ending (rowAt (now (t .entry))) j e r ⌝ }
+{
+    if j == 0 {
+        return e;
+    }
+    end_at(t, j - 1)
+}
+
+// The clocks start, .., end - 1: none if start is not below end.
+struct Piece {
+    start: u32,
+    end: u32,
+}
+
+// How many rows a piece takes.
+fn size(p: Piece) -> usize
+    ensures { λ r. ⌜ r ≡ length (range (p .start) (p .end)) ⌝ }
+{
+    if p.start < p.end { 1 } else { 0 }
+}
+
+// The rows `a` to `b` of `src`, copied to row `c` on.
+fn copy(src: &[u32], a: usize, b: usize, out: &mut [u32], c: usize)
+    requires { ⌜ a ≤ b ⌝ }
+    requires { ⌜ 2 * b ≤ length (now src) ⌝ }
+    requires { ⌜ 2 * (c + (b - a)) ≤ length (now out) ⌝ }
+    ensures { λ r. ⌜ Moved (rowAt (now (src .entry))) a b (rowAt (now (out .entry))) c (rowAt (now (out .exit))) ⌝ }
+{
+    let from = 2 * a;
+    let to = 2 * c;
+    let len = 2 * (b - a);
+    let mut i: usize = 0;
+    while i < len {
+        out[to + i] = src[from + i];
+        i += 1;
+    }
+}
+
+// A piece stored as row `k`, and where the next row stands.
+fn put(out: &mut [u32], k: usize, p: Piece) -> usize
+    requires { ⌜ 2 * (k + length (range (p .start) (p .end))) ≤ length (now out) ⌝ }
+    ensures { λ r. ⌜ Stands (rowAt (now (out .entry))) k (range (p .start) (p .end)) (rowAt (now (out .exit))) r ⌝ }
+{
+    if p.end <= p.start {
+        return k;
+    }
+    out[2 * k] = p.start;
+    out[2 * k + 1] = p.end;
+    k + 1
+}
+
+// The rows before `i`, two pieces, and the rows from `j` on. FULL is decided before a row is stored.
+fn splice(
+    t: &[u32],
+    n: usize,
+    i: usize,
+    j: usize,
+    p: Piece,
+    q: Piece,
+    out: &mut [u32],
+) -> tables::Made
+    requires { ⌜ 2 * n ≤ length (now t) ⌝ }
+    requires { ⌜ i ≤ j ⌝ }
+    requires { ⌜ j ≤ n ⌝ }
+    ensures { λ r. ⌜ Wrote (span (rowAt (now (t .entry))) 0 i ++ ((range (p .start) (p .end) ++ range (q .start) (q .end)) ++ span (rowAt (now (t .entry))) j (n - j))) (length (now (out .entry))) (now (out .exit)) r ⌝ }
+{
+    let k = i + size(p) + size(q) + (n - j);
+    if room(out.len()) < k {
+        return finish(out, k);
+    }
+    copy(t, 0, i, out, 0);
+    let x = put(out, i, p);
+    let y = put(out, x, q);
+    copy(t, j, n, out, y);
     finish(out, k)
 }

@@ -15,3 +15,5 @@ pub mod Crossing
 pub mod Zeroing
 pub mod Sets
 pub mod Differing
+pub mod Inserting
+pub mod Placing
