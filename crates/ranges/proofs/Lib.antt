@@ -6,3 +6,4 @@ pub mod Stores
 pub mod Moving
 pub mod Looking
 pub mod Asking
+pub mod Determined
