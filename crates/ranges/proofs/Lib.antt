@@ -7,3 +7,5 @@ pub mod Moving
 pub mod Looking
 pub mod Asking
 pub mod Determined
+pub mod Most
+pub mod Starred
