@@ -9,3 +9,4 @@ pub mod Asking
 pub mod Determined
 pub mod Most
 pub mod Starred
+pub mod Refuted
