@@ -13,3 +13,8 @@ pub mod Finding
 pub mod Uniting
 pub mod Crossing
 pub mod Zeroing
+pub mod Sets
+pub mod Differing
+pub mod Inserting
+pub mod Placing
+pub mod Viewing

@@ -1,0 +1,12 @@
+-- Laws that belong to no one function.
+pub mod Plain
+pub mod Flat
+pub mod Writing
+pub mod Stores
+pub mod Moving
+pub mod Looking
+pub mod Asking
+pub mod Determined
+pub mod Most
+pub mod Starred
+pub mod Refuted
