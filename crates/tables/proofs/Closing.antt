@@ -13,7 +13,7 @@ use Rattle.tables.proofs.Spanning.{length-span, span-same}
 use Rattle.tables.proofs.Pushing.{row-is}
 
 -- every row is a unit row
-pub Units : Rows → Type 0
+unfoldable pub Units : Rows → Type 0
 Units [] = Unit
 Units (r ∷ rs) = (r .weight ≡ 1) × Units rs
 

@@ -1,0 +1,6 @@
+-- Laws that belong to no one function.
+pub mod Checking
+pub mod Numbering
+pub mod Reading
+pub mod Answering
+pub mod Unique
