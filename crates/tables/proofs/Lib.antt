@@ -13,3 +13,5 @@ pub mod Finding
 pub mod Uniting
 pub mod Crossing
 pub mod Zeroing
+pub mod Sets
+pub mod Differing

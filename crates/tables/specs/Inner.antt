@@ -3,3 +3,4 @@ pub mod Rows
 pub mod Sweep
 pub mod Unite
 pub mod Cross
+pub mod Differ

@@ -1,0 +1,6 @@
+-- Laws that belong to no one function.
+pub mod Plain
+pub mod Flat
+pub mod Writing
+pub mod Stores
+pub mod Looking
