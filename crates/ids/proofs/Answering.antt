@@ -1,6 +1,7 @@
 -- The answers of the routines that write a table. Assumes nothing.
 use mathlib.Core.Logic.{⊎-elim}
 use mathlib.Core.Path.{_≡_, refl, ap, sym, subst, _∙_}
+use mathlib.Core.Bool.{Bool, true}
 use mathlib.Core.List.{List, [], _∷_, map}
 use Prim.Native.Nat.{ℕ, _≤_, _<_}
 use native.Mathlib.Omega.{arith}
@@ -12,11 +13,13 @@ use Rattle.tables.specs.Inner.Sweep.{Holds}
 use Rattle.tables.specs.declared.Made.{Made}
 use Rattle.tables.specs.declared.Made.the-variants as made
 use Rattle.tables.proofs.Joining.{split}
-use Rattle.ids.specs.Rows.{Row}
+use Rattle.tables.proofs.Sets.{Means}
+use Rattle.ids.specs.Rows.{Row, TableOf}
+use Rattle.ids.specs.Rows as ids
 use Rattle.ids.specs.Tables.{Slices, Held, three, held, most, rows, rowsOf, padded, filled, Table, Writes, Captured}
-use Rattle.ids.specs.Inner.{idRow, idRows, IdTable, Finished}
+use Rattle.ids.specs.Inner.{idRow, idRows, IdTable, Both, Finished}
 use Rattle.ids.proofs.Numbering.{Fit, fit, length-rows, Narrow}
-use Rattle.ids.proofs.Reading.{gather, gather-rows}
+use Rattle.ids.proofs.Reading.{gather, gather-rows, combined-right}
 
 -- slices of the same lengths are filled alike
 pub record Alike (o o′ : Slices) : Type 0 where
@@ -71,3 +74,13 @@ module _ {ok : Type 0} {right : List Row → Type 0} (o out : Slices) (cs ss es 
           let e : map gather rs ≡ rowsOf k cs ss es = ap (map gather) (sym (h .kept l)) ∙ gather-rows cs ss es f g k z in
           subst (λ (x : Made). Writes ok right o out x) (sym (d .0))
           (writes-rows o (map gather rs) k p q (sym (ap length e ∙ length-rows k cs ss es z)) l (d .1 ∙ (filled-alike (rowsOf k cs ss es) a ∙ ap (λ (t : List Row). filled t o) (sym e))))
+
+-- two tables combined
+module _ {f : ℕ → ℕ → ℕ} {P : Type 0 → Type 0 → Type 0} (means : Means f P)
+    (ac aS ae : List ℕ) (fa : Narrow aS) (ga : Narrow ae) (n : ℕ) (bc bs be : List ℕ) (fb : Narrow bs) (gb : Narrow be) (m : ℕ) (o : Slices) where
+  pub made-of : {out : Slices} {b : Bool} {r : Made} {room k : ℕ} (cs ss es : List ℕ) → Both ac aS ae n bc bs be m b → b ≡ true → Narrow ss → Narrow es → Alike (three cs ss es) o → room ≡ most o
+      → Holds room (idRow cs ss es) k (inner.combined f (idRows ac aS ae n) (idRows bc bs be m)) → Finished room k (three cs ss es) out r
+      → Writes (Table (held ac aS ae n) × Table (held bc bs be m)) (TableOf (λ c x. P (ids.Holds (rowsOf n ac aS ae) c x) (ids.Holds (rowsOf m bc bs be) c x))) o out r
+  made-of {out} {b} {r} {room} {k} cs ss es t e fs ge a q h w =
+      finished o out cs ss es fs ge a k _ (t .says .right e) (combined-right ac aS ae fa ga n (t .one e) bc bs be fb gb m (t .two e) means)
+      (subst (λ (v : ℕ). Holds v (idRow cs ss es) k (inner.combined f (idRows ac aS ae n) (idRows bc bs be m))) q h) (subst (λ (v : ℕ). Finished v k (three cs ss es) out r) q w)

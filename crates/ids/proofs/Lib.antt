@@ -3,4 +3,6 @@ pub mod Checking
 pub mod Numbering
 pub mod Reading
 pub mod Answering
+pub mod Placing
+pub mod Merging
 pub mod Unique

@@ -7,7 +7,7 @@ use Prim.Native.Nat.{ℕ, zero, suc, _+_, _-_, _*_, _/_, _%_, _^_, _≤_, _<_, m
 use native.Mathlib.Omega.{arith}
 use native.Mathlib.Numerals.{add-one}
 use lib.ListN.{length, getD, take, drop, replicate, length-map}
-use mir.Syntax.{w32}
+use mir.Syntax.{w32, w64}
 use mir.Val.{Fits}
 use lib.Seq.{drop-cons}
 use Rattle.tables.specs.Answers.{Says}
@@ -91,6 +91,10 @@ filled-columns n cs ss es xs ys zs xs′ ys′ zs′ f p q u =
 abbrev pub Narrow : List ℕ → Type 0
 Narrow l = (j : ℕ) → Fits w32 (getD l j 0)
 
+-- the clients of a slice of u64
+abbrev pub Wide : List ℕ → Type 0
+Wide l = (j : ℕ) → Fits w64 (getD l j 0)
+
 module _ (cs ss es : List ℕ) (f : Narrow ss) (g : Narrow es) where
   before-up : (j : ℕ) → Apart cs ss es j → Before (idAt cs ss es j) (idAt cs ss es (suc j))
   before-up j h =
@@ -170,3 +174,7 @@ module _ (cs ss es : List ℕ) (n : ℕ) (t : IdTable cs ss es n) where
 
   pub joined : inner.Joined (idRows cs ss es n)
   joined = spanned (idRow cs ss es) 0 0 0 n (λ j _ h. links j (omega arith)) (λ _. omega arith) (λ _ _ e. omega arith)
+
+-- clients never fall
+pub rises : (cs ss es : List ℕ) (f : Narrow ss) (n i : ℕ) → IdTable cs ss es n → i + 1 < n → getD cs i 0 ≤ getD cs (i + 1) 0
+rises cs ss es f n i t h = omega (arith, t .apart i h, f (i + 1))

@@ -9,8 +9,9 @@ use Rattle.tables.specs.Inner.Rows as inner
 use Rattle.tables.specs.Inner.Rows.{span, at, JoinedFrom, combined}
 use Rattle.tables.proofs.Joining.{split, at-here, at-past, at-before, at-below}
 use Rattle.tables.proofs.Meaning.{combined-joined, combined-at}
-use Rattle.tables.proofs.Closing.{Units, units, span-unit}
-use Rattle.ids.specs.Rows.{Row, row, Within, Holds, Before, First, Joined, TableOf, union, difference, intersection}
+use Rattle.tables.proofs.Closing.{Units, span-unit}
+use Rattle.tables.proofs.Sets.{Means, combined-units}
+use Rattle.ids.specs.Rows.{Row, row, Within, Holds, Before, First, Joined, TableOf}
 use Rattle.ids.specs.Tables.{rowsOf}
 use Rattle.ids.specs.Inner.{numberOf, idRow, idRows, IdTable}
 use Rattle.ids.proofs.Numbering.{idAt, listed, fit, Fit, rows-listed, Narrow, joined}
@@ -116,53 +117,6 @@ module _ (cs ss es : List ℕ) (f : Narrow ss) (g : Narrow es) (n : ℕ) (t : Id
         (λ h. subst (λ (l : List Row). Holds l c k) e (holds-back 0 0 (idRows cs ss es n) j q c k h)),
       )
 
--- the weights of a union, a difference and an intersection
-union-unit : (v w : ℕ) → v ≤ 1 → w ≤ 1 → inner.union v w ≤ 1
-unfolding inner.union
-union-unit v w a b = omega arith
-
-union-from : (v w : ℕ) → 0 < inner.union v w → (0 < v) ⊎ (0 < w)
-unfolding inner.union
-union-from v w h = ⊎-elim (λ l. inl l) (λ l. inr (omega arith)) (split 0 v)
-
-union-to : (v w : ℕ) → (0 < v) ⊎ (0 < w) → 0 < inner.union v w
-unfolding inner.union
-union-to v w (inl h) = omega arith
-union-to v w (inr h) = omega arith
-
-difference-from : (v w : ℕ) → 0 < inner.difference v w → (0 < v) × (w ≡ 0)
-unfolding inner.difference
-difference-from v zero h = (h, refl)
-difference-from v (suc w) h = absurd (omega arith)
-
-difference-to : (v w : ℕ) → 0 < v → w ≤ 0 → 0 < inner.difference v w
-unfolding inner.difference
-difference-to v zero h e = h
-difference-to v (suc w) h e = absurd (omega arith)
-
-difference-unit : (v w : ℕ) → v ≤ 1 → w ≤ 1 → inner.difference v w ≤ 1
-unfolding inner.difference
-difference-unit v zero a b = a
-difference-unit v (suc w) a b = omega arith
-
-intersection-from : (v w : ℕ) → 0 < inner.intersection v w → (0 < v) × (0 < w)
-unfolding inner.intersection
-intersection-from zero w h = absurd (omega arith)
-intersection-from (suc v) zero h = absurd (omega arith)
-intersection-from (suc v) (suc w) h = (omega arith, omega arith)
-
-intersection-to : (v w : ℕ) → 0 < v → 0 < w → 0 < inner.intersection v w
-unfolding inner.intersection
-intersection-to zero w a b = absurd (omega arith)
-intersection-to (suc v) zero a b = absurd (omega arith)
-intersection-to (suc v) (suc w) a b = omega arith
-
-intersection-unit : (v w : ℕ) → v ≤ 1 → w ≤ 1 → inner.intersection v w ≤ 1
-unfolding inner.intersection
-intersection-unit zero w a b = omega arith
-intersection-unit (suc v) zero a b = omega arith
-intersection-unit (suc v) (suc w) a b = omega arith
-
 module _ (ac aS ae : List ℕ) (fa : Narrow aS) (ga : Narrow ae) (n : ℕ) (ta : IdTable ac aS ae n)
     (bc bs be : List ℕ) (fb : Narrow bs) (gb : Narrow be) (m : ℕ) (tb : IdTable bc bs be m) where
   abbrev a : inner.Rows
@@ -171,16 +125,10 @@ module _ (ac aS ae : List ℕ) (fa : Narrow aS) (ga : Narrow ae) (n : ℕ) (ta :
   abbrev b : inner.Rows
   b = idRows bc bs be m
 
-  -- f keeps to what either table holds, and gives unit rows
-  record Plain (f : ℕ → ℕ → ℕ) : Type 0 where
-    none : f 0 0 ≡ 0
-    unit : (v w : ℕ) → v ≤ 1 → w ≤ 1 → f v w ≤ 1
-    from : (v w : ℕ) → 0 < f v w → (0 < v) ⊎ (0 < w)
-
-  combined-right : (f : ℕ → ℕ → ℕ) → Plain f → (ids : ℕ → ℕ → Type 0)
-      → ((c k : ℕ) → ids c k ↔ ((k < 4294967296) × (0 < f (at a (numberOf c k)) (at b (numberOf c k)))))
-      → TableOf ids (map gather (combined f a b))
-  combined-right f p ids h = (joined-back 0 0 t j u q, means)
+  -- THE COMBINATION READS BACK, and is the one id table of the combined ids
+  pub combined-right : {f : ℕ → ℕ → ℕ} {P : Type 0 → Type 0 → Type 0} → Means f P
+      → TableOf (λ c k. P (Holds (rowsOf n ac aS ae) c k) (Holds (rowsOf m bc bs be) c k)) (map gather (combined f a b))
+  combined-right {f} {P} p = (joined-back 0 0 t j u q, means)
     where
       t : inner.Rows
       t = combined f a b
@@ -192,44 +140,36 @@ module _ (ac aS ae : List ℕ) (fa : Narrow aS) (ga : Narrow ae) (n : ℕ) (ta :
       e x = combined-at f (p .none) a b x
 
       u : Units t
-      u = units 0 0 t j (λ x. subst (λ (v : ℕ). v ≤ 1) (sym (e x)) (p .unit _ _ (span-unit (idRow ac aS ae) 0 n (λ _. refl) x) (span-unit (idRow bc bs be) 0 m (λ _. refl) x)))
+      u = combined-units p a b (span-unit (idRow ac aS ae) 0 n (λ _. refl)) (span-unit (idRow bc bs be) 0 m (λ _. refl))
+
+      either : (v w : ℕ) → 0 < f v w → (0 < v) ⊎ (0 < w)
+      either zero zero h = absurd (omega (arith, p .none))
+      either zero (suc w) h = inr (omega arith)
+      either (suc v) w h = inl (omega arith)
 
       q : Kept t
-      q x l = ⊎-elim (kept-rows ac aS ae fa ga n x) (kept-rows bc bs be fb gb m x) (p .from (at a x) (at b x) (subst (λ (v : ℕ). 0 < v) (e x) l))
+      q x l = ⊎-elim (kept-rows ac aS ae fa ga n x) (kept-rows bc bs be fb gb m x) (either (at a x) (at b x) (subst (λ (v : ℕ). 0 < v) (e x) l))
 
-      means : (c k : ℕ) → Holds (map gather t) c k ↔ ids c k
+      left : (c k : ℕ) → Holds (rowsOf n ac aS ae) c k ↔ Placed a c k
+      left = holds-placed ac aS ae fa ga n ta
+
+      right : (c k : ℕ) → Holds (rowsOf m bc bs be) c k ↔ Placed b c k
+      right = holds-placed bc bs be fb gb m tb
+
+      near : (c k : ℕ) → k < 4294967296 → P (Holds (rowsOf n ac aS ae) c k) (Holds (rowsOf m bc bs be) c k) ↔ (0 < f (at a (numberOf c k)) (at b (numberOf c k)))
+      near c k h =
+          p .means (at a (numberOf c k)) (at b (numberOf c k))
+          ((λ l. left c k .0 l .1), (λ l. left c k .1 (h, l)))
+          ((λ l. right c k .0 l .1), (λ l. right c k .1 (h, l)))
+
+      -- no table holds a clock of 2^32 or more
+      far : (c k : ℕ) → 4294967296 ≤ k → P (Holds (rowsOf n ac aS ae) c k) (Holds (rowsOf m bc bs be) c k) → ⊥
+      far c k h l =
+          let w = p .means 0 0 ((λ (y : Holds (rowsOf n ac aS ae) c k). omega (arith, left c k .0 y .0)), (λ y. absurd (omega arith))) ((λ (y : Holds (rowsOf m bc bs be) c k). omega (arith, right c k .0 y .0)), (λ y. absurd (omega arith))) .0 l in
+          omega (arith, w, p .none)
+
+      means : (c k : ℕ) → Holds (map gather t) c k ↔ P (Holds (rowsOf n ac aS ae) c k) (Holds (rowsOf m bc bs be) c k)
       means c k = (
-        (λ l. let r = placed-back 0 0 t j q c k l in h c k .1 (r .0, subst (λ (v : ℕ). 0 < v) (e (numberOf c k)) (r .1))),
-        (λ l. let r = h c k .0 l in holds-back 0 0 t j q c k (r .0, subst (λ (v : ℕ). 0 < v) (sym (e (numberOf c k))) (r .1))),
+        (λ l. let r = placed-back 0 0 t j q c k l in near c k (r .0) .1 (subst (λ (v : ℕ). 0 < v) (e (numberOf c k)) (r .1))),
+        (λ l. ⊎-elim (λ h. holds-back 0 0 t j q c k (h, subst (λ (v : ℕ). 0 < v) (sym (e (numberOf c k))) (near c k h .0 l))) (λ h. absurd (far c k h l)) (split k 4294967296)),
       )
-
-  left : (c k : ℕ) → Holds (rowsOf n ac aS ae) c k ↔ Placed a c k
-  left = holds-placed ac aS ae fa ga n ta
-
-  right : (c k : ℕ) → Holds (rowsOf m bc bs be) c k ↔ Placed b c k
-  right = holds-placed bc bs be fb gb m tb
-
-  pub union-right : TableOf (union (rowsOf n ac aS ae) (rowsOf m bc bs be)) (map gather (combined inner.union a b))
-  unfolding inner.union
-  union-right =
-      combined-right inner.union (record { none = refl; unit = union-unit; from = union-from }) _ (λ c k. (
-        ⊎-elim (λ l. let r = left c k .0 l in (r .0, union-to _ _ (inl (r .1)))) (λ l. let r = right c k .0 l in (r .0, union-to _ _ (inr (r .1)))),
-        (λ r. ⊎-elim (λ l. inl (left c k .1 (r .0, l))) (λ l. inr (right c k .1 (r .0, l))) (union-from (at a (numberOf c k)) (at b (numberOf c k)) (r .1))),
-      ))
-
-  pub difference-right : TableOf (difference (rowsOf n ac aS ae) (rowsOf m bc bs be)) (map gather (combined inner.difference a b))
-  unfolding inner.difference
-  difference-right =
-      combined-right inner.difference (record { none = refl; unit = difference-unit; from = λ v w h. inl (difference-from v w h .0) }) _ (λ c k. (
-        (λ l. let r = left c k .0 (l .0) in
-            (r .0, ⊎-elim (λ z. absurd (l .1 (right c k .1 (r .0, z)))) (λ z. difference-to (at a (numberOf c k)) (at b (numberOf c k)) (r .1) z) (split 0 (at b (numberOf c k))))),
-        (λ r. let d = difference-from (at a (numberOf c k)) (at b (numberOf c k)) (r .1) in (left c k .1 (r .0, d .0), λ l. omega (arith, d .1, right c k .0 l .1))),
-      ))
-
-  pub intersection-right : TableOf (intersection (rowsOf n ac aS ae) (rowsOf m bc bs be)) (map gather (combined inner.intersection a b))
-  unfolding inner.intersection
-  intersection-right =
-      combined-right inner.intersection (record { none = refl; unit = intersection-unit; from = λ v w h. inl (intersection-from v w h .0) }) _ (λ c k. (
-        (λ l. let r = left c k .0 (l .0) in (r .0, intersection-to (at a (numberOf c k)) (at b (numberOf c k)) (r .1) (right c k .0 (l .1) .1))),
-        (λ r. let d = intersection-from (at a (numberOf c k)) (at b (numberOf c k)) (r .1) in (left c k .1 (r .0, d .0), right c k .1 (r .0, d .1))),
-      ))

@@ -1,14 +1,17 @@
 // Id tables: rows (client, start, end) in three lent slices, as desks hold and send them.
 ghost use mathlib.Core.Path.{_≡_};
 ghost use mathlib.Core.List.{_++_};
+ghost use mathlib.Core.List.{List};
 ghost use Prim.Native.Nat.{ℕ, _+_, _-_, _≤_, _<_, min};
 ghost use lib.ListN.{length, getD, take, replicate};
 ghost use Rattle.tables.specs.Answers.{Says};
 ghost use Rattle.tables.specs.Limits.{rowLimit};
-ghost use Rattle.tables.specs.Inner.Rows.{at, span};
+ghost use Rattle.tables.specs.Inner.Rows.{at, span, combined, union};
+ghost use Rattle.tables.specs.Inner.Sweep.{Holds};
+ghost use Rattle.tables.specs.Inner.Unite.{Counted as Counts, United};
 ghost use Rattle.ids.specs.Rows.{row};
-ghost use Rattle.ids.specs.Tables.{three, held, room, rowsOf, filled, Captured, Contains, Empty, Len};
-ghost use Rattle.ids.specs.Inner.{numberOf, idRow, NoneEmpty, Apart, IdTable, Checked, Finished};
+ghost use Rattle.ids.specs.Tables.{three, held, room, rowsOf, filled, Captured, Merged, Contains, Empty, Len};
+ghost use Rattle.ids.specs.Inner.{numberOf, idRow, NoneEmpty, Apart, idRows, IdTable, Checked, Both, Finished, beyond, Picked, Stored, Further, Takes, Open, Joins, Merging, Tail};
 
 // Whether the id (c, x) comes before the id (d, y).
 fn precedes(c: u64, x: u32, d: u64, y: u32) -> bool
@@ -67,6 +70,22 @@ fn well_formed(clients: &[u64], starts: &[u32], ends: &[u32], count: usize) -> b
         return false;
     }
     none_empty(starts, ends, count) & apart(clients, starts, ends, count)
+}
+
+// Whether both tables are well formed.
+fn both_formed(
+    clients: &[u64],
+    starts: &[u32],
+    ends: &[u32],
+    count: usize,
+    b_clients: &[u64],
+    b_starts: &[u32],
+    b_ends: &[u32],
+    b_count: usize,
+) -> bool
+    ensures { λ r. ⌜ Both (now (clients .entry)) (now (starts .entry)) (now (ends .entry)) count (now («b_clients» .entry)) (now («b_starts» .entry)) (now («b_ends» .entry)) «b_count» r ⌝ }
+{
+    well_formed(clients, starts, ends, count) & well_formed(b_clients, b_starts, b_ends, b_count)
 }
 
 // The first `n` elements of `src`, and zeros behind them.
@@ -133,4 +152,334 @@ pub fn capture(
     copy(starts, count, to_starts);
     copy(ends, count, to_ends);
     tables::Made::Rows(count)
+}
+
+// Zero behind the `k` rows that were put out, or everywhere if there is no room for them.
+fn finish(
+    to_clients: &mut [u64],
+    to_starts: &mut [u32],
+    to_ends: &mut [u32],
+    most: usize,
+    k: usize,
+) -> tables::Made
+    requires { ⌜ most ≤ room (three (now «to_clients») (now «to_starts») (now «to_ends»)) ⌝ }
+    ensures { λ r. ⌜ Finished most k (three (now («to_clients» .entry)) (now («to_starts» .entry)) (now («to_ends» .entry)))
+        (three (now («to_clients» .exit)) (now («to_starts» .exit)) (now («to_ends» .exit))) r ⌝ }
+{
+    if most < k {
+        trim(to_clients, to_starts, to_ends, 0);
+        return tables::Made::Refused(varint::Refusal::Full);
+    }
+    trim(to_clients, to_starts, to_ends, k);
+    tables::Made::Rows(k)
+}
+
+fn pick(t: bool, x: u32, y: u32) -> u32
+    ensures { λ r. ⌜ Picked t x y r ⌝ }
+{
+    if t { x } else { y }
+}
+
+fn pick_wide(t: bool, x: u64, y: u64) -> u64
+    ensures { λ r. ⌜ Picked t x y r ⌝ }
+{
+    if t { x } else { y }
+}
+
+fn pick_place(t: bool, x: usize, y: usize) -> usize
+    ensures { λ r. ⌜ Picked t x y r ⌝ }
+{
+    if t { x } else { y }
+}
+
+// The next row of two tables, and the places behind it.
+pub struct Taken {
+    pub i: usize,
+    pub j: usize,
+    pub client: u64,
+    pub start: u32,
+    pub end: u32,
+}
+
+// Of the rows `i` and `j` the one that starts first: everything is read, and then picked without a branch.
+fn next(
+    clients: &[u64],
+    starts: &[u32],
+    ends: &[u32],
+    i: usize,
+    b_clients: &[u64],
+    b_starts: &[u32],
+    b_ends: &[u32],
+    j: usize,
+) -> Taken
+    requires { ⌜ (i < room (three (now clients) (now starts) (now ends))) × (j < room (three (now «b_clients») (now «b_starts») (now «b_ends»))) ⌝ }
+    ensures { λ r. ⌜ Takes (now (clients .entry)) (now (starts .entry)) (now (ends .entry)) i (now («b_clients» .entry)) (now («b_starts» .entry)) (now («b_ends» .entry)) j r ⌝ }
+{
+    let c = clients[i];
+    let d = b_clients[j];
+    let x = starts[i];
+    let y = b_starts[j];
+    let second = precedes(d, y, c, x);
+    Taken {
+        i: pick_place(second, i, i + 1),
+        j: pick_place(second, j + 1, j),
+        client: pick_wide(second, d, c),
+        start: pick(second, y, x),
+        end: pick(second, b_ends[j], ends[i]),
+    }
+}
+
+fn store(out: &mut [u32], most: usize, k: usize, v: u32)
+    requires { ⌜ most ≤ length (now out) ⌝ }
+    ensures { λ r. ⌜ Stored most (now (out .entry)) k v (now (out .exit)) ⌝ }
+{
+    if k < most {
+        out[k] = v;
+    }
+}
+
+fn store_wide(out: &mut [u64], most: usize, k: usize, v: u64)
+    requires { ⌜ most ≤ length (now out) ⌝ }
+    ensures { λ r. ⌜ Stored most (now (out .entry)) k v (now (out .exit)) ⌝ }
+{
+    if k < most {
+        out[k] = v;
+    }
+}
+
+// Whether (lc, le), one more than an end, is at (c, x) or before.
+fn past(lc: u64, le: u64, c: u64, x: u32) -> bool
+    requires { ⌜ le ≤ 4294967296 ⌝ }
+    ensures { λ r. ⌜ Says (numberOf lc le ≤ numberOf c x) r ⌝ }
+{
+    (lc < c) | ((lc == c) & (le <= x as u64))
+}
+
+// One row more, where it starts past the last.
+fn counted(k: usize, lc: u64, le: u64, c: u64, x: u32) -> usize
+    requires { ⌜ (k ≤ 2048) × (le ≤ 4294967296) ⌝ }
+    ensures { λ r. ⌜ Counts k (numberOf lc le) (numberOf c x) r ⌝ }
+{
+    if past(lc, le, c, x) { k + 1 } else { k }
+}
+
+// One more than the larger end.
+fn further(lc: u64, le: u64, c: u64, y: u32) -> u64
+    requires { ⌜ (lc ≤ c) × (le ≤ 4294967296) ⌝ }
+    ensures { λ r. ⌜ Further lc le c y r ⌝ }
+{
+    let f = y as u64 + 1;
+    if (lc == c) & (f < le) { le } else { f }
+}
+
+// How many rows are put out, and one more than the end of the last.
+pub struct Added {
+    pub k: usize,
+    pub end: u64,
+}
+
+// One row more, which starts where the last of the `k` rows does or behind. What is stored and not counted is written over.
+fn join(
+    to_clients: &mut [u64],
+    to_starts: &mut [u32],
+    to_ends: &mut [u32],
+    most: usize,
+    k: usize,
+    lc: u64,
+    le: u64,
+    c: u64,
+    x: u32,
+    y: u32,
+) -> Added
+    requires { ⌜ most ≤ room (three (now «to_clients») (now «to_starts») (now «to_ends»)) ⌝ }
+    requires { ⌜ Open most (now «to_clients») (now «to_starts») (now «to_ends») k lc le ⌝ }
+    requires { ⌜ (k ≤ 2048) × (lc ≤ c) × (x < y) ⌝ }
+    ensures { λ r. ⌜ Joins most (now («to_clients» .entry)) (now («to_starts» .entry)) (now («to_ends» .entry)) k lc le c x y
+        (now («to_clients» .exit)) (now («to_starts» .exit)) (now («to_ends» .exit)) r ⌝ }
+{
+    store_wide(to_clients, most, k, c);
+    store(to_starts, most, k, x);
+    let r = counted(k, lc, le, c, x);
+    let f = further(lc, le, c, y);
+    store(to_ends, most, r - 1, (f - 1) as u32);
+    Added { k: r, end: f }
+}
+
+// The rows from `i0` on, where the other table has none left: whatever that was.
+fn rest(
+    clients: &[u64],
+    starts: &[u32],
+    ends: &[u32],
+    n: usize,
+    i0: usize,
+    to_clients: &mut [u64],
+    to_starts: &mut [u32],
+    to_ends: &mut [u32],
+    most: usize,
+    k0: usize,
+    c0: u64,
+    e0: u64,
+) -> usize
+    requires { ⌜ IdTable (now clients) (now starts) (now ends) n ⌝ }
+    requires { ⌜ most ≤ room (three (now «to_clients») (now «to_starts») (now «to_ends»)) ⌝ }
+    requires { ⌜ Tail most (now clients) (now starts) (now ends) n i0 (now «to_clients») (now «to_starts») (now «to_ends») k0 c0 e0 ⌝ }
+    ensures { λ r. ⌜ ((bc bs be : List ℕ) (m : ℕ) → IdTable bc bs be m
+        → United beyond (idRow (now (clients .entry)) (now (starts .entry)) (now (ends .entry))) n i0 (idRow bc bs be) m m most
+        (idRow (now («to_clients» .entry)) (now («to_starts» .entry)) (now («to_ends» .entry))) k0 (numberOf c0 e0)
+        → Holds most (idRow (now («to_clients» .exit)) (now («to_starts» .exit)) (now («to_ends» .exit))) r
+        (combined union (idRows (now (clients .entry)) (now (starts .entry)) (now (ends .entry)) n) (idRows bc bs be m))) ⌝ }
+{
+    let mut i = i0;
+    let mut k = k0;
+    let mut c = c0;
+    let mut e = e0;
+    while i < n {
+        let d = clients[i];
+        let a = join(
+            to_clients,
+            to_starts,
+            to_ends,
+            most,
+            k,
+            c,
+            e,
+            d,
+            starts[i],
+            ends[i],
+        );
+        i += 1;
+        k = a.k;
+        e = a.end;
+        c = d;
+    }
+    k
+}
+
+// The rows of the union of two tables, as many as there is room for, and how many there are.
+fn unite(
+    clients: &[u64],
+    starts: &[u32],
+    ends: &[u32],
+    n: usize,
+    b_clients: &[u64],
+    b_starts: &[u32],
+    b_ends: &[u32],
+    m: usize,
+    to_clients: &mut [u64],
+    to_starts: &mut [u32],
+    to_ends: &mut [u32],
+    most: usize,
+) -> usize
+    requires { ⌜ IdTable (now clients) (now starts) (now ends) n ⌝ }
+    requires { ⌜ IdTable (now «b_clients») (now «b_starts») (now «b_ends») m ⌝ }
+    requires { ⌜ most ≤ room (three (now «to_clients») (now «to_starts») (now «to_ends»)) ⌝ }
+    ensures { λ r. ⌜ Holds most (idRow (now («to_clients» .exit)) (now («to_starts» .exit)) (now («to_ends» .exit))) r
+        (combined union (idRows (now (clients .entry)) (now (starts .entry)) (now (ends .entry)) n)
+        (idRows (now («b_clients» .entry)) (now («b_starts» .entry)) (now («b_ends» .entry)) m)) ⌝ }
+{
+    let mut i: usize = 0;
+    let mut j: usize = 0;
+    let mut k: usize = 0;
+    let mut c: u64 = 0;
+    let mut e: u64 = 0;
+    while i < n {
+        if m <= j {
+            return rest(
+                clients,
+                starts,
+                ends,
+                n,
+                i,
+                to_clients,
+                to_starts,
+                to_ends,
+                most,
+                k,
+                c,
+                e,
+            );
+        }
+        let t = next(clients, starts, ends, i, b_clients, b_starts, b_ends, j);
+        let a = join(
+            to_clients,
+            to_starts,
+            to_ends,
+            most,
+            k,
+            c,
+            e,
+            t.client,
+            t.start,
+            t.end,
+        );
+        i = t.i;
+        j = t.j;
+        k = a.k;
+        e = a.end;
+        c = t.client;
+    }
+    rest(
+        b_clients,
+        b_starts,
+        b_ends,
+        m,
+        j,
+        to_clients,
+        to_starts,
+        to_ends,
+        most,
+        k,
+        c,
+        e,
+    )
+}
+
+// The union of two tables.
+pub fn merge(
+    clients: &[u64],
+    starts: &[u32],
+    ends: &[u32],
+    count: usize,
+    b_clients: &[u64],
+    b_starts: &[u32],
+    b_ends: &[u32],
+    b_count: usize,
+    to_clients: &mut [u64],
+    to_starts: &mut [u32],
+    to_ends: &mut [u32],
+) -> tables::Made
+    ensures { λ r. ⌜ Merged (held (now (clients .entry)) (now (starts .entry)) (now (ends .entry)) count)
+        (held (now («b_clients» .entry)) (now («b_starts» .entry)) (now («b_ends» .entry)) «b_count»)
+        (three (now («to_clients» .entry)) (now («to_starts» .entry)) (now («to_ends» .entry)))
+        (three (now («to_clients» .exit)) (now («to_starts» .exit)) (now («to_ends» .exit))) r ⌝ }
+{
+    if !both_formed(
+        clients,
+        starts,
+        ends,
+        count,
+        b_clients,
+        b_starts,
+        b_ends,
+        b_count,
+    ) {
+        trim(to_clients, to_starts, to_ends, 0);
+        return tables::Made::Refused(varint::Refusal::Malformed);
+    }
+    let most = most_rows(to_clients.len(), to_starts.len(), to_ends.len());
+    let k = unite(
+        clients,
+        starts,
+        ends,
+        count,
+        b_clients,
+        b_starts,
+        b_ends,
+        b_count,
+        to_clients,
+        to_starts,
+        to_ends,
+        most,
+    );
+    finish(to_clients, to_starts, to_ends, most, k)
 }
