@@ -5,4 +5,6 @@ pub mod Reading
 pub mod Answering
 pub mod Placing
 pub mod Merging
+pub mod Inserting
+pub mod Asking
 pub mod Unique

@@ -111,3 +111,10 @@ pub record Tail (room : ℕ) (cs ss es : List ℕ) (n i : ℕ) (oc os oe : List 
   pub within : i ≤ n
   pub later : i < n → c ≤ getD cs i 0
   pub few : k ≤ 1024 + i
+
+-- ## Clients counted
+
+-- 1 where two clients differ
+pub record Fresh (c d r : ℕ) : Type 0 where
+  pub same : c ≡ d → r ≡ 0
+  pub other : (c ≡ d → ⊥) → r ≡ 1

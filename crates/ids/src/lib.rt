@@ -10,8 +10,8 @@ ghost use Rattle.tables.specs.Inner.Rows.{at, span, combined, union};
 ghost use Rattle.tables.specs.Inner.Sweep.{Holds};
 ghost use Rattle.tables.specs.Inner.Unite.{Counted as Counts, United};
 ghost use Rattle.ids.specs.Rows.{row};
-ghost use Rattle.ids.specs.Tables.{three, held, room, rowsOf, filled, Captured, Merged, Contains, Empty, Len};
-ghost use Rattle.ids.specs.Inner.{numberOf, idRow, NoneEmpty, Apart, idRows, IdTable, Checked, Both, Finished, beyond, Picked, Stored, Further, Takes, Open, Joins, Merging, Tail};
+ghost use Rattle.ids.specs.Tables.{three, held, room, rowsOf, filled, Captured, Merged, Inserted, Contains, Empty, Clients, Len};
+ghost use Rattle.ids.specs.Inner.{numberOf, idRow, NoneEmpty, Apart, idRows, IdTable, Checked, Both, Finished, beyond, Picked, Stored, Further, Takes, Open, Joins, Merging, Tail, Fresh};
 
 // Whether the id (c, x) comes before the id (d, y).
 fn precedes(c: u64, x: u32, d: u64, y: u32) -> bool
@@ -482,4 +482,145 @@ pub fn merge(
         most,
     );
     finish(to_clients, to_starts, to_ends, most, k)
+}
+
+// One range more; an empty range adds no row.
+pub fn insert_range(
+    clients: &[u64],
+    starts: &[u32],
+    ends: &[u32],
+    count: usize,
+    client: tables::Client,
+    start: tables::Clock,
+    end: tables::Clock,
+    to_clients: &mut [u64],
+    to_starts: &mut [u32],
+    to_ends: &mut [u32],
+) -> tables::Made
+    ensures { λ r. ⌜ Inserted (held (now (clients .entry)) (now (starts .entry)) (now (ends .entry)) count)
+        (row (client .0) (start .0) (end .0))
+        (three (now («to_clients» .entry)) (now («to_starts» .entry)) (now («to_ends» .entry)))
+        (three (now («to_clients» .exit)) (now («to_starts» .exit)) (now («to_ends» .exit))) r ⌝ }
+{
+    let c = client.0;
+    let s = start.0;
+    let e = end.0;
+    if e <= s {
+        return capture(clients, starts, ends, count, to_clients, to_starts, to_ends);
+    }
+    let cs = [c; 1];
+    let ss = [s; 1];
+    let es = [e; 1];
+    merge(
+        clients,
+        starts,
+        ends,
+        count,
+        &cs,
+        &ss,
+        &es,
+        1,
+        to_clients,
+        to_starts,
+        to_ends,
+    )
+}
+
+// Whether one of the rows lo, .., hi - 1 holds the id: each look halves the rows still possible.
+fn search(
+    clients: &[u64],
+    starts: &[u32],
+    ends: &[u32],
+    n: usize,
+    lo: usize,
+    hi: usize,
+    client: u64,
+    clock: u32,
+) -> bool
+    requires { ⌜ IdTable (now clients) (now starts) (now ends) n ⌝ }
+    requires { ⌜ hi ≤ n ⌝ }
+    ensures { λ r. ⌜ Says (0 < at (span (idRow (now (clients .entry)) (now (starts .entry)) (now (ends .entry))) lo (hi - lo)) (numberOf client clock)) r ⌝ }
+{
+    if hi <= lo {
+        return false;
+    }
+    let mid = (lo + (hi - 1)) / 2;
+    let c = clients[mid];
+    if precedes(client, clock, c, starts[mid]) {
+        return search(clients, starts, ends, n, lo, mid, client, clock);
+    }
+    if precedes(client, clock, c, ends[mid]) {
+        return true;
+    }
+    search(clients, starts, ends, n, mid + 1, hi, client, clock)
+}
+
+// Whether the table holds the clock of the client.
+pub fn contains(
+    clients: &[u64],
+    starts: &[u32],
+    ends: &[u32],
+    count: usize,
+    client: tables::Client,
+    clock: tables::Clock,
+) -> tables::Told
+    ensures { λ r. ⌜ Contains (held (now (clients .entry)) (now (starts .entry)) (now (ends .entry)) count) (client .0) (clock .0) r ⌝ }
+{
+    if !well_formed(clients, starts, ends, count) {
+        return tables::Told::Refused(varint::Refusal::Malformed);
+    }
+    let c = client.0;
+    let x = clock.0;
+    if search(clients, starts, ends, count, 0, count, c, x) {
+        return tables::Told::Yes;
+    }
+    tables::Told::No
+}
+
+// Whether the table has no row.
+pub fn is_empty(clients: &[u64], starts: &[u32], ends: &[u32], count: usize) -> tables::Told
+    ensures { λ r. ⌜ Empty (held (now (clients .entry)) (now (starts .entry)) (now (ends .entry)) count) r ⌝ }
+{
+    if !well_formed(clients, starts, ends, count) {
+        return tables::Told::Refused(varint::Refusal::Malformed);
+    }
+    if count == 0 {
+        return tables::Told::Yes;
+    }
+    tables::Told::No
+}
+
+// 1 where a client differs from the one before it.
+fn fresh(c: u64, d: u64) -> usize
+    ensures { λ r. ⌜ Fresh c d r ⌝ }
+{
+    if c == d { 0 } else { 1 }
+}
+
+// How many clients the first `n` rows have, counted from the last row on.
+fn count_clients(clients: &[u64], starts: &[u32], ends: &[u32], n: usize) -> usize
+    requires { ⌜ IdTable (now clients) (now starts) (now ends) n ⌝ }
+    ensures { λ r. ⌜ Clients (rowsOf n (now (clients .entry)) (now (starts .entry)) (now (ends .entry))) r ⌝ }
+{
+    if n == 0 {
+        return 0;
+    }
+    let mut many: usize = 1;
+    let mut i = n - 1;
+    while 0 < i {
+        let j = i - 1;
+        many = many + fresh(clients[j], clients[i]);
+        i = j;
+    }
+    many
+}
+
+// How many clients the table has.
+pub fn len(clients: &[u64], starts: &[u32], ends: &[u32], count: usize) -> tables::Counted
+    ensures { λ r. ⌜ Len (held (now (clients .entry)) (now (starts .entry)) (now (ends .entry)) count) r ⌝ }
+{
+    if !well_formed(clients, starts, ends, count) {
+        return tables::Counted::Refused(varint::Refusal::Malformed);
+    }
+    tables::Counted::Is(count_clients(clients, starts, ends, count))
 }
