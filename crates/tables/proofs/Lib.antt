@@ -11,6 +11,7 @@ pub mod Pushing
 pub mod Sweeping
 pub mod Finding
 pub mod Uniting
+pub mod Taking
 pub mod Crossing
 pub mod Zeroing
 pub mod Sets

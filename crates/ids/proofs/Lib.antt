@@ -1,0 +1,10 @@
+-- Laws that belong to no one function.
+pub mod Checking
+pub mod Numbering
+pub mod Reading
+pub mod Answering
+pub mod Placing
+pub mod Merging
+pub mod Inserting
+pub mod Asking
+pub mod Unique
