@@ -10,6 +10,7 @@ mod stand_ins;
 pub use stand_ins::{block_store, iter, slice, store};
 
 pub mod case;
+pub mod facts;
 pub mod gen;
 pub mod model;
 pub mod original;
