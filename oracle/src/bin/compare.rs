@@ -138,7 +138,9 @@ fn main() {
             part("readers, strings of any bytes, all to 3", &gen::short_strings);
             let mut r = Rng(seed ^ (p << 56));
             let mut rounds = 0u64;
-            while start.elapsed() < Duration::from_secs(secs) && !stop.load(Relaxed) {
+            // however long the small cases took, random ones get a third of the time
+            let end = Duration::from_secs(secs).max(start.elapsed() + Duration::from_secs(secs) / 3);
+            while start.elapsed() < end && !stop.load(Relaxed) {
                 gen::round(&mut r, &mut |c| t.see(c));
                 rounds += 1;
                 if t.failed > 0 { stop.store(true, Relaxed) }
