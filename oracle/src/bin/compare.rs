@@ -125,15 +125,15 @@ fn main() {
                 if t.failed > 0 { stop.store(true, Relaxed) }
                 if p == 0 { println!("{:>7.1} s  {name}: {} cases in {:.1} s on each of {parts} threads", start.elapsed().as_secs_f64(), n, from.elapsed().as_secs_f64()) }
             };
+            part("writers, all of 16 bits and about each power", &gen::all_writes);
+            part("readers, strings over 01 80 FF, all to 12", &|s, see| gen::strings_over(&[0x01, 0x80, 0xff], 12, s, see));
+            part("readers, strings over 00 40 7F 80 C0 FF, all to 7", &|s, see| gen::strings_over(&[0x00, 0x40, 0x7f, 0x80, 0xc0, 0xff], 7, s, see));
+            part("readers, runs over 80 C0 and 6 ends, all to 12", &|s, see| gen::runs_over(&[0x80, 0xc0], s, see));
             part("range tables over 8 clocks, all", &gen::all_ranges);
             part("id tables over 3 clients of 3 clocks, all", &gen::all_ids);
             part("vectors over 3 clients, all", &gen::all_vectors);
             part("tables that break the rules", &gen::all_malformed);
             part("vector bytes over 7 values, all to 7", &gen::all_decodes);
-            part("writers, all of 16 bits and about each power", &gen::all_writes);
-            part("readers, strings over 01 80 FF, all to 12", &|s, see| gen::strings_over(&[0x01, 0x80, 0xff], 12, s, see));
-            part("readers, strings over 00 40 7F 80 C0 FF, all to 7", &|s, see| gen::strings_over(&[0x00, 0x40, 0x7f, 0x80, 0xc0, 0xff], 7, s, see));
-            part("readers, runs over 80 C0 and 6 ends, all to 12", &|s, see| gen::runs_over(&[0x80, 0xc0], s, see));
             if long { part("readers, runs over 80 81 C0 FF and 6 ends, all to 12", &|s, see| gen::runs_over(&[0x80, 0x81, 0xc0, 0xff], s, see)) }
             part("readers, strings of any bytes, all to 3", &gen::short_strings);
             let mut r = Rng(seed ^ (p << 56));
