@@ -1,0 +1,2 @@
+-- Laws of the C boundary.
+pub mod Crossing
