@@ -64,7 +64,7 @@ def main():
         if only and name not in only: continue
         build(out, edit)
         r = subprocess.run([run, '20', '1'], env={**os.environ, 'RATTLE_LIB': out}, capture_output=True, text=True)
-        took = re.search(r'cases in ([0-9.]+) s', r.stdout)
+        took = re.search(r'cases in ([0-9.]+) s, seed', r.stdout)
         case = [l for l in r.stdout.split('\n') if l.startswith('DIFFER')]
         ok = r.returncode == 0 if edit is None else r.returncode == 1 and case
         bad += not ok
