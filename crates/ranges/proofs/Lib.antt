@@ -4,4 +4,5 @@ pub mod Flat
 pub mod Writing
 pub mod Stores
 pub mod Moving
+pub mod Editing
 pub mod Looking
