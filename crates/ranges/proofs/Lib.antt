@@ -4,6 +4,7 @@ pub mod Flat
 pub mod Writing
 pub mod Stores
 pub mod Moving
+pub mod Editing
 pub mod Looking
 pub mod Asking
 pub mod Determined

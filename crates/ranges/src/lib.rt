@@ -11,7 +11,7 @@ ghost use Rattle.tables.specs.Inner.Unite.{Passed, Ended, Counted, Starts, Ends
 ghost use Rattle.tables.specs.Inner.Cross.{Keeps};
 ghost use Rattle.tables.specs.Inner.Differ.{GapStart, GapEnd};
 ghost use Rattle.tables.specs.Inner.Edit.{range, Parted, starts, ends, Starting, Ending, Moved, Stands};
-ghost use Rattle.ranges.specs.Tables.{most, Merged, Excluded, Intersected, ContainsClock, FindStart, ClockStart, ClockEnd, Len, IsEmpty, Get};
+ghost use Rattle.ranges.specs.Tables.{most, Merged, Excluded, Intersected, Inserted, Removed, ContainsClock, FindStart, ClockStart, ClockEnd, Len, IsEmpty, Get};
 ghost use Rattle.ranges.specs.Inner.{rowAt, rowsOf, Ruled, Wrote};
 
 // An index, or none, or why there is no answer.
@@ -599,4 +599,68 @@ fn splice(
     let y = put(out, x, q);
     copy(t, j, n, out, y);
     finish(out, k)
+}
+
+// The table with the clocks start, .., end - 1 put in: one row in the place of those that the range overlaps or touches.
+pub fn insert(
+    rows: &[u32],
+    n: usize,
+    start: tables::Clock,
+    end: tables::Clock,
+    out: &mut [u32],
+) -> tables::Made
+    ensures { λ r. ⌜ Inserted (now (rows .entry)) n (start .0) (end .0) (length (now (out .entry))) (now (out .exit)) r ⌝ }
+{
+    if !well_formed(rows, n) {
+        tables::zero(out);
+        return tables::Made::Refused(varint::Refusal::Malformed);
+    }
+    let s = start.0;
+    let e = end.0;
+    let none = Piece { start: 0, end: 0 };
+    if e <= s {
+        return splice(rows, n, n, n, none, none, out);
+    }
+    let i = ends_below(rows, n, s as u64);
+    let j = starts_below(rows, n, i, e as u64 + 1);
+    let p = start_or(rows, n, i, s);
+    let q = end_or(rows, j, e);
+    let piece = Piece {
+        start: lower(p, s),
+        end: higher(e, q),
+    };
+    splice(rows, n, i, j, piece, none, out)
+}
+
+// The table with the clocks start, .., end - 1 taken out: of the rows that the range overlaps, what lies before it and what lies behind it.
+pub fn remove(
+    rows: &[u32],
+    n: usize,
+    start: tables::Clock,
+    end: tables::Clock,
+    out: &mut [u32],
+) -> tables::Made
+    ensures { λ r. ⌜ Removed (now (rows .entry)) n (start .0) (end .0) (length (now (out .entry))) (now (out .exit)) r ⌝ }
+{
+    if !well_formed(rows, n) {
+        tables::zero(out);
+        return tables::Made::Refused(varint::Refusal::Malformed);
+    }
+    let s = start.0;
+    let e = end.0;
+    let none = Piece { start: 0, end: 0 };
+    if e <= s {
+        return splice(rows, n, n, n, none, none, out);
+    }
+    let i = ends_below(rows, n, s as u64 + 1);
+    let j = starts_below(rows, n, i, e as u64);
+    let first = Piece {
+        start: start_or(rows, n, i, s),
+        end: s,
+    };
+    let last = Piece {
+        start: e,
+        end: end_or(rows, j, e),
+    };
+    splice(rows, n, i, j, first, last, out)
 }

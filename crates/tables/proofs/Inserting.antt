@@ -13,7 +13,7 @@ use borrow.Author.Tests.{lt-ltb, le-ltb}
 use Rattle.tables.specs.Inner.Rows.{Row, Rows, at, JoinedFrom, Joined, combined, union, difference, span, Follows}
 use Rattle.tables.specs.Inner.Edit.{Plain, range, Parted, starts, ends, Starting, Ending}
 use Rattle.tables.proofs.Joining.{split, at-here, at-past, at-before}
-use Rattle.tables.proofs.Meaning.{combined-only}
+use Rattle.tables.proofs.Meaning.{combined-joined, combined-at, combined-only}
 use Rattle.tables.proofs.Pushing.{piece}
 use Rattle.tables.proofs.Spanning.{Links, unit-links, spanned, length-span}
 use Rattle.tables.proofs.Closing.{span-unit}
@@ -246,11 +246,11 @@ module _ (row : ℕ → Row) (n : ℕ) (t : Plain row n) where
 
 -- ## Other rows in their place
 
-unit-union : union 0 0 ≡ 0
+pub unit-union : union 0 0 ≡ 0
 unfolding union
 unit-union = refl
 
-unit-difference : difference 0 0 ≡ 0
+pub unit-difference : difference 0 0 ≡ 0
 unfolding difference
 unit-difference = refl
 
@@ -377,3 +377,56 @@ module _ (row : ℕ → Row) (n : ℕ) (t : Plain row n) (s e i j p q : ℕ) (h 
           go (inr a) _ (inl d) _ = range-out p s _ x (inr a) ∙ (range-out e q [] x (inl d) ∙ ap (difference _) (sym (range-in s e [] x a d)))
           go (inr a) _ (inr d) (inl b) = level (range-out p s _ x (inr a) ∙ range-in e q [] x d b) (c .right x d b) (range-out s e [] x (inr d))
           go (inr a) _ (inr d) (inr b) = level (range-out p s _ x (inr a) ∙ range-out e q [] x (inr b)) (c .none-past x b) (range-out s e [] x (inr d))
+
+-- the rows that end below lo start below hi: from there on the search goes
+pub parted-from : {row : ℕ → Row} {n lo i : ℕ} (hi : ℕ) → Plain row n → Parted (ends row) n lo i i → lo ≤ hi → Parted (starts row) n hi i n
+parted-from hi t u h =
+    record {
+      order = u .within;
+      within = omega arith;
+      below = λ k e. omega (arith, t .ruled k (omega (arith, u .within)) .filled, u .below k e);
+      above = λ l. absurd (omega arith);
+    }
+
+-- ## A range that holds nothing
+
+pub range-none : (s e : ℕ) → e ≤ s → range s e ≡ []
+unfolding range
+range-none s e h = simp (le-ltb s e h)
+
+pub range-one : (s e : ℕ) → s < e → range s e ≡ piece s e 1 ∷ []
+unfolding range
+range-one s e h = simp (lt-ltb s e h)
+
+-- no piece more
+pub and-none : (rs : Rows) → rs ++ range 0 0 ≡ rs
+and-none rs = ap (λ (l : Rows). rs ++ l) (range-none 0 0 (omega arith)) ∙ append-nil rs
+
+-- the weights decide
+pub combined-same : (f : ℕ → ℕ → ℕ) → f 0 0 ≡ 0 → (a b c : Rows) → ((x : ℕ) → at b x ≡ at c x) → combined f a b ≡ combined f a c
+combined-same f z a b c h = combined-only f z a c _ (combined-joined f a b) (λ x. combined-at f z a b x ∙ ap (f (at a x)) (h x))
+
+-- a range as one row, which may be empty
+pub range-row : (s e x : ℕ) → at (piece s e 1 ∷ []) x ≡ at (range s e) x
+unfolding at
+range-row s e x = ⊎-elim
+    (λ h. sym (ap (λ (l : Rows). at l x) (range-one s e h)))
+    (λ h. ⊎-elim (λ l. at-before (piece s e 1) [] l) (λ l. at-past (piece s e 1) [] (omega arith)) (split x s) ∙ sym (ap (λ (l : Rows). at l x) (range-none s e h)))
+    (split s e)
+
+-- AN EMPTY RANGE GIVES THE SAME TABLE
+pub unchanged : (row : ℕ → Row) (n : ℕ) → Plain row n → (f : ℕ → ℕ → ℕ) → f 0 0 ≡ 0 → ((v : ℕ) → f v 0 ≡ v) → (s e : ℕ) → e ≤ s
+    → span row 0 n ≡ combined f (span row 0 n) (range s e)
+unfolding at
+unchanged row n t f z same s e h =
+    combined-only f z (span row 0 n) (range s e) (span row 0 n)
+    (spanned row 0 0 0 n (λ k _ l. plain-links row n t k (omega arith)) (λ _. omega arith) (λ _ _ k. omega (arith, t .unit 0)))
+    (λ x. sym (ap (λ (l : Rows). f (at (span row 0 n) x) (at l x)) (range-none s e h) ∙ same _))
+
+pub union-keeps : (v : ℕ) → union v 0 ≡ v
+unfolding union
+union-keeps v = omega arith
+
+pub difference-keeps : (v : ℕ) → difference v 0 ≡ v
+unfolding difference
+difference-keeps v = refl
