@@ -5,4 +5,6 @@ pub mod Writing
 pub mod Stores
 pub mod Moving
 pub mod Editing
+pub mod Growing
 pub mod Looking
+pub mod Asking

@@ -2,11 +2,12 @@
 use mathlib.Core.Logic.{_⊎_, ⊎-elim}
 use mathlib.Core.Path.{_≡_, refl, ap, ap₂, sym, subst, subst₂, _∙_}
 use mathlib.Core.List.{List, [], _∷_, _++_, map}
+use mathlib.Core.Bool.{Bool, false}
 use Prim.Native.Nat.{ℕ, zero, suc, _-_, _*_, _/_, _≤_, _<_}
 use native.Mathlib.Omega.{arith}
 use lib.ListN.{length, take, replicate, length-map, length-append, length-replicate}
 use Rattle.varint.specs.declared.Refusal.the-variants.{Full, Malformed}
-use Rattle.tables.specs.Answers.{Gives, done, full, malformed, saidMade}
+use Rattle.tables.specs.Answers.{Gives, done, full, malformed, Says, saidMade}
 use Rattle.tables.specs.declared.Made.{Made}
 use Rattle.tables.specs.declared.Made.the-variants as made
 use Rattle.tables.specs.Inner.Rows as inner
@@ -14,13 +15,14 @@ use Rattle.tables.specs.Inner.Rows.{combined, span}
 use Rattle.tables.specs.Inner.Sweep.{Holds}
 use Rattle.tables.proofs.Joining.{split}
 use Rattle.tables.proofs.Spanning.{length-span}
+use Rattle.tables.proofs.Pushing.{holds-room}
 use Rattle.tables.proofs.Sets.{Means}
 use Rattle.ranges.specs.Rows as reader
 use Rattle.ranges.specs.Rows.{Row, TableOf}
 use Rattle.ranges.specs.Tables.{rows, most, Table, flat, filled, Writes}
 use Rattle.ranges.specs.Inner.{rowAt, rowsOf, bare, Ruled, Wrote}
 use Rattle.ranges.proofs.Plain.{plain, bare-plain, combined-right}
-use Rattle.ranges.proofs.Flat.{rows-plain, flat-rows, ruled-table, read-flat, length-flat}
+use Rattle.ranges.proofs.Flat.{rows-plain, flat-rows, ruled-table, table-ruled, read-flat, length-flat}
 
 pub filled-none : (len : ℕ) → replicate len 0 ≡ filled len []
 unfolding flat
@@ -79,3 +81,15 @@ written len t j h =
       (omega (arith, length-append (flat t) (replicate (len - 2 * length t) 0), length-flat t, length-replicate {A = ℕ} (len - 2 * length t) 0), subst (λ (u : List Row). reader.Joined u) (sym e) j),
       e,
     )
+
+-- ## A routine over two tables
+
+pub refuses-both : {a b : List ℕ} {n m : ℕ} {right : List Row → Type 0} (len : ℕ) {out : List ℕ} {r : Bool} → Says (Ruled a n × Ruled b m) r → r ≡ false
+    → out ≡ replicate len 0 → Writes (Table a n × Table b m) right len out (made.Refused Malformed)
+refuses-both len s h e = refuses len (λ t. s .wrong h (table-ruled (t .0), table-ruled (t .1))) e
+
+pub finished : {f : ℕ → ℕ → ℕ} {P : Type 0 → Type 0 → Type 0} {a b : List ℕ} {n m : ℕ} {out : List ℕ} {room k : ℕ} {r : Made} → Means f P → (len : ℕ) (l : List ℕ)
+    → Ruled a n × Ruled b m → room ≡ most len → length l ≡ len → Holds room (rowAt l) k (combined f (rowsOf a n) (rowsOf b m))
+    → ((rs : inner.Rows) → Holds (most (length l)) (rowAt l) k rs → Wrote rs (length l) out r)
+    → Writes (Table a n × Table b m) (TableOf (λ x. P (reader.Holds (rows a n) x) (reader.Holds (rows b m) x))) len out r
+finished s len l p e g h w = gives-combined s (p .0) (p .1) (wrote-length g (w _ (holds-room (e ∙ ap most (sym g)) h)))

@@ -14,5 +14,6 @@ pub mod Uniting
 pub mod Crossing
 pub mod Zeroing
 pub mod Sets
+pub mod Differing
 pub mod Inserting
 pub mod Placing

@@ -10,51 +10,39 @@ use Rattle.ranges.proofs.finish.Lts as lts
 use Rattle.ranges.proofs.room.Reads as room-reads
 use Rattle.tables.proofs.zero.Reads as zero-reads
 
--- src/lib.rt:229:8
 room-requires : tie.Need-room-requires
 room-requires c κs = search needs
 
--- src/lib.rt:230:9
 zero-requires : tie.Need-zero-requires
 zero-requires c κs = search needs
 
--- src/lib.rt:231:9
 same-length : tie.Need-same-length
 same-length c = search needs
 
--- src/lib.rt:231:9
 returns : tie.Need-returns
 returns c = wrote-full (c .before .before .before .before .before .before .before .args .out .now) _ _ (omega arith) (c .before .before .zero .ensures)
 
--- src/lib.rt:233:19
 mul-zero : tie.Need-mul-zero
 mul-zero c = search needs
 
--- src/lib.rt:233:10
 mul-zero-2 : tie.Need-mul-zero-2
 mul-zero-2 c = search needs
 
--- src/lib.rt:233:10
 sub-zero : tie.Need-sub-zero
 sub-zero c = search needs
 
--- src/lib.rt:233:10
 part-zero-start : tie.Need-part-zero-start
 part-zero-start c = search needs
 
--- src/lib.rt:233:10
 part-zero-end : tie.Need-part-zero-end
 part-zero-end c = search needs
 
--- src/lib.rt:233:5
 zero-requires-2 : tie.Need-zero-requires-2
 zero-requires-2 c κs = search needs
 
--- src/lib.rt:226:1
 same-length-2 : tie.Need-same-length-2
 same-length-2 c = search needs
 
--- src/lib.rt:226:1
 returns-2 : tie.Need-returns-2
 returns-2 c = wrote-done (c .before .before .before .before .before .before .before .args .out .now) _ _ (omega arith) (tail-zeroed (2 * c .before .before .before .before .before .before .before .args .k) (c .before .before .before .before .before .before .before .args .out .now) _ (omega arith) (c .before .before .zero2 .ensures))
 

@@ -14,55 +14,42 @@ Inv-loop a n e ok₀ i₀ ok i = Looked a n i ok
 abbrev μ-loop : tie.MeasureT-loop
 μ-loop a n e ok₀ i₀ ok i = e - i
 
--- src/lib.rt:32:9
 returns : tie.Need-returns Inv-loop μ-loop
 returns c = says-no (λ w. omega (arith, w .few))
 
--- src/lib.rt:35:9
 returns-2 : tie.Need-returns-2 Inv-loop μ-loop
 returns-2 c = says-no (λ w. omega (arith, w .fits))
 
--- src/lib.rt:37:13
 mul-e : tie.Need-mul-e Inv-loop μ-loop
 mul-e c = omega arith
 
--- src/lib.rt:40:5
 loop-holds : tie.Need-loop-holds Inv-loop μ-loop
 loop-holds c = looked-none _ _
 
--- src/lib.rt:41:22
 sub-ok : tie.Need-sub-ok Inv-loop μ-loop
 sub-ok c = omega arith
 
--- src/lib.rt:41:20
 mul-ok : tie.Need-mul-ok Inv-loop μ-loop
 mul-ok c = omega arith
 
--- src/lib.rt:41:20
 shared-slice-read-ok : tie.Need-shared-slice-read-ok Inv-loop μ-loop
 shared-slice-read-ok c = omega arith
 
--- src/lib.rt:41:31
 mul-ok-2 : tie.Need-mul-ok-2 Inv-loop μ-loop
 mul-ok-2 c = omega arith
 
--- src/lib.rt:41:31
 shared-slice-read-ok-2 : tie.Need-shared-slice-read-ok-2 Inv-loop μ-loop
 shared-slice-read-ok-2 c = omega arith
 
--- src/lib.rt:42:9
 add-i : tie.Need-add-i Inv-loop μ-loop
 add-i c = omega arith
 
--- src/lib.rt:40:5
 loop-less : tie.Need-loop-less Inv-loop μ-loop
 loop-less c = omega arith
 
--- src/lib.rt:40:5
 loop-again : tie.Need-loop-again Inv-loop μ-loop
 loop-again c = looked-more _ (c .before .before .before .loop .inv) (omega arith)
 
--- src/lib.rt:28:1
 returns-3 : tie.Need-returns-3 Inv-loop μ-loop
 returns-3 c = looked-all _ (c .before .loop .inv) (omega arith) (omega arith) (omega arith)
 
