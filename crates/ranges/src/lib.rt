@@ -714,3 +714,26 @@ fn tail_below(t: &[u32], n: usize, x: u64) -> usize
     }
     ends_below(t, n, x)
 }
+
+// The table of `k` rows with one range more, in its own room, and how many rows it has then: where there is no room for them, nothing is stored.
+fn grow(out: &mut [u32], k: usize, s: u32, e: u32) -> usize
+    requires { ⌜ Ruled (now out) k ⌝ }
+    ensures { λ r. ⌜ Holds (most (length (now (out .entry)))) (rowAt (now (out .exit))) r (combined union (rowsOf (now (out .entry)) k) (range s e)) ⌝ }
+{
+    if e <= s {
+        return k;
+    }
+    let i = tail_below(out, k, s as u64);
+    let j = starts_below(out, k, i, e as u64 + 1);
+    let p = lower(start_or(out, k, i, s), s);
+    let q = higher(e, end_or(out, j, e));
+    let r = i + 1 + (k - j);
+    if room(out.len()) < r {
+        return r;
+    }
+    shift(out, i, j, k);
+    out[2 * i] = p;
+    out[2 * i + 1] = q;
+    r
+}
+
