@@ -737,3 +737,24 @@ fn grow(out: &mut [u32], k: usize, s: u32, e: u32) -> usize
     r
 }
 
+// The table of the first `n` start, end pairs of `l`, put in one after the other, in the output itself.
+pub fn from_ranges(l: &[u32], n: usize, out: &mut [u32]) -> tables::Made
+    ensures { λ r. ⌜ FromRanges (now (l .entry)) n (length (now (out .entry))) (now (out .exit)) r ⌝ }
+{
+    if l.len() / 2 < n {
+        tables::zero(out);
+        return tables::Made::Refused(varint::Refusal::Malformed);
+    }
+    let most = room(out.len());
+    let mut k: usize = 0;
+    let mut i: usize = 0;
+    while i < n {
+        k = grow(out, k, start_at(l, i), end_at(l, i));
+        if most < k {
+            tables::zero(out);
+            return tables::Made::Refused(varint::Refusal::Full);
+        }
+        i += 1;
+    }
+    finish(out, k)
+}
