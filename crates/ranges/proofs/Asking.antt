@@ -13,12 +13,14 @@ use Rattle.varint.specs.declared.Refusal.the-variants.{Malformed}
 use Rattle.tables.specs.Answers.{Answer, answer, Says, Tells, says, refuses}
 use Rattle.tables.specs.Inner.Rows as inner
 use Rattle.tables.specs.Inner.Rows.{at, span}
+use Rattle.tables.specs.Inner.Edit.{Parted, ends}
 use Rattle.tables.proofs.Saying.{says-yes, says-no}
+use Rattle.tables.proofs.Finding.{ends-rise}
 use Rattle.ranges.specs.Rows.{Row, row, Holds, findStart, clockStart, clockEnd, get}
 use Rattle.ranges.specs.Tables.{rows, Table}
 use Rattle.ranges.specs.Inner.{rowAt, rowsOf, bare, Ruled}
 use Rattle.ranges.proofs.Plain.{plain, holds-plain}
-use Rattle.ranges.proofs.Flat.{rows-plain, length-rows, two-on, ruled-table, table-ruled}
+use Rattle.ranges.proofs.Flat.{rows-plain, length-rows, two-on, ruled-links, ruled-table, table-ruled}
 
 pub refused : {A : Type 0} {right : A → Type 0} {none : A} {l : List ℕ} {n : ℕ} {b : Bool} → Says (Ruled l n) b → b ≡ false → Tells (Table l n) right none (answer (noOf Malformed) none)
 refused s e = refuses (λ t. s .wrong e (table-ruled t)) refl
@@ -110,3 +112,16 @@ find-none x (s ∷ []) (suc n) h f = absurd (omega arith)
 find-none x (s ∷ e ∷ l) (suc n) h f =
     simp (le-ltb x e (f 0 (omega arith)))
     (ap (Option·map suc) (find-none x l n (omega arith) (λ j m. subst (λ (r : inner.Row). r .end ≤ x) (two-on s e l j) (f (suc j) (omega arith)))))
+
+-- where the ends are parted at x + 1
+ended-by : (x : ℕ) (l : List ℕ) (n i : ℕ) → Ruled l n → Parted (ends (rowAt l)) n (x + 1) i i → (j : ℕ) → j < i → rowAt l j .end ≤ x
+ended-by x l n i t p j h =
+    let k = ends-rise (rowAt l) n (ruled-links t) j (i - 1 - j) (omega (arith, p .within)) in
+    let e : j + (i - 1 - j) ≡ i - 1 = omega arith in
+    omega (arith, subst (λ (m : ℕ). rowAt l j .end ≤ rowAt l m .end) e k, p .below (i - 1) (omega arith))
+
+pub found-at : (x : ℕ) (l : List ℕ) (n i : ℕ) → Parted (ends (rowAt l)) n (x + 1) i i → i < n → Ruled l n → some i ≡ findStart (rows l n) x
+found-at x l n i p h t = find-row x l n i (t .fits) h (ended-by x l n i t p) (omega (arith, p .above h))
+
+pub found-none : (x : ℕ) (l : List ℕ) (n i : ℕ) → Parted (ends (rowAt l)) n (x + 1) i i → n ≤ i → Ruled l n → none ≡ findStart (rows l n) x
+found-none x l n i p h t = find-none x l n (t .fits) (λ j m. ended-by x l n i t p j (omega arith))

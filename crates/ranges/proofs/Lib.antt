@@ -8,3 +8,7 @@ pub mod Editing
 pub mod Growing
 pub mod Looking
 pub mod Asking
+pub mod Determined
+pub mod Most
+pub mod Starred
+pub mod Refuted

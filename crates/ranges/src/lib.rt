@@ -1,6 +1,7 @@
 // Range tables: rows (start, end) in a lent slice of u32, as start, end, start, end, with a count.
 ghost use mathlib.Core.Path.{_≡_};
 ghost use Prim.Native.Nat.{ℕ, _+_, _-_, _*_, _<_, _≤_, min, max};
+ghost use mathlib.Core.List.{_++_};
 ghost use lib.ListN.{length};
 ghost use Rattle.tables.specs.Answers.{Says};
 ghost use Rattle.tables.specs.Limits.{rowLimit};
@@ -9,11 +10,9 @@ ghost use Rattle.tables.specs.Inner.Sweep.{Holds};
 ghost use Rattle.tables.specs.Inner.Unite.{Passed, Ended, Counted, Starts, Ends, Last, Adds, United};
 ghost use Rattle.tables.specs.Inner.Cross.{Keeps};
 ghost use Rattle.tables.specs.Inner.Differ.{GapStart, GapEnd};
-ghost use Rattle.ranges.specs.Tables.{most, Merged, Excluded, Intersected, ContainsClock, ClockStart, ClockEnd, Len, IsEmpty, Get};
-ghost use Rattle.ranges.specs.Inner.{rowAt, rowsOf, Ruled, Wrote};
-ghost use mathlib.Core.List.{_++_};
 ghost use Rattle.tables.specs.Inner.Edit.{range, Parted, starts, ends, Starting, Ending, Moved, Stands};
-ghost use Rattle.ranges.specs.Tables.{Inserted, Removed, FromRanges};
+ghost use Rattle.ranges.specs.Tables.{most, Merged, Excluded, Intersected, Inserted, Removed, FromRanges, ContainsClock, FindStart, ClockStart, ClockEnd, Len, IsEmpty, Get};
+ghost use Rattle.ranges.specs.Inner.{rowAt, rowsOf, Ruled, Wrote};
 
 // An index, or none, or why there is no answer.
 pub enum Place {
@@ -350,6 +349,21 @@ pub fn contains_clock(t: &[u32], n: usize, clock: tables::Clock) -> tables::Told
         return tables::Told::Yes;
     }
     tables::Told::No
+}
+
+// The first row whose end exceeds the clock.
+pub fn find_start(t: &[u32], n: usize, clock: tables::Clock) -> Place
+    ensures { λ r. ⌜ FindStart (now (t .entry)) n (clock .0) r ⌝ }
+{
+    if !well_formed(t, n) {
+        return Place::Refused(varint::Refusal::Malformed);
+    }
+    let x = clock.0;
+    let i = ends_below(t, n, x as u64 + 1);
+    if n <= i {
+        return Place::Nothing;
+    }
+    Place::At(i)
 }
 
 // The first start.

@@ -17,3 +17,4 @@ pub mod Sets
 pub mod Differing
 pub mod Inserting
 pub mod Placing
+pub mod Viewing

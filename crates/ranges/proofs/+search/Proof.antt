@@ -24,7 +24,6 @@ search-at t = and 1 search-kinds.ps (is 1 search-kinds.ps μ-search t) search′
 abbrev search-below : ℕ → In 1 search-kinds.ps
 search-below t = and 1 search-kinds.ps (falls 1 search-kinds.ps _<_ μ-search t) search′.Pre
 
--- src/lib.rt:307:9
 search-returns : (t : ℕ) → search-lts.Need-returns (
   end-at-reads.Asked,
   end-at-reads.Learnt,
@@ -35,7 +34,6 @@ search-returns : (t : ℕ) → search-lts.Need-returns (
 ) (search-at t) search′.Post
 search-returns t c = says-no (look-empty (rowAt (c .before .before .args .t .now)) (c .before .before .args .n) (λ j h. ruled-links (c .before .before .pre .1 .0) j h) (c .before .before .args .x) (c .before .before .args .lo) (c .before .before .args .hi) (c .if1 .taken))
 
--- src/lib.rt:309:22
 search-sub-mid : (t : ℕ) → search-lts.Need-sub-mid (
   end-at-reads.Asked,
   end-at-reads.Learnt,
@@ -46,7 +44,6 @@ search-sub-mid : (t : ℕ) → search-lts.Need-sub-mid (
 ) (search-at t) search′.Post
 search-sub-mid t c = omega arith
 
--- src/lib.rt:309:16
 search-add-mid : (t : ℕ) → search-lts.Need-add-mid (
   end-at-reads.Asked,
   end-at-reads.Learnt,
@@ -57,7 +54,6 @@ search-add-mid : (t : ℕ) → search-lts.Need-add-mid (
 ) (search-at t) search′.Post
 search-add-mid t c = omega arith
 
--- src/lib.rt:310:8
 search-end-at-requires : (t : ℕ) → search-lts.Need-end-at-requires (
   end-at-reads.Asked,
   end-at-reads.Learnt,
@@ -68,7 +64,6 @@ search-end-at-requires : (t : ℕ) → search-lts.Need-end-at-requires (
 ) (search-at t) search′.Post
 search-end-at-requires t c κs = omega arith
 
--- src/lib.rt:311:29
 search-add-search : (t : ℕ) → search-lts.Need-add-search (
   end-at-reads.Asked,
   end-at-reads.Learnt,
@@ -79,7 +74,6 @@ search-add-search : (t : ℕ) → search-lts.Need-add-search (
 ) (search-at t) search′.Post
 search-add-search t c = omega arith
 
--- src/lib.rt:311:9
 search-search-requires : (t : ℕ) → search-lts.Need-search-requires (
   end-at-reads.Asked,
   end-at-reads.Learnt,
@@ -90,7 +84,6 @@ search-search-requires : (t : ℕ) → search-lts.Need-search-requires (
 ) (search-at t) search′.Post
 search-search-requires t c κs = (omega (arith, c .before .before .before .before .pre .0), ((c .before .before .before .before .pre .1 .0), omega arith))
 
--- src/lib.rt:311:9
 search-returns-2 : (t : ℕ) → search-lts.Need-returns-2 (
   end-at-reads.Asked,
   end-at-reads.Learnt,
@@ -101,7 +94,6 @@ search-returns-2 : (t : ℕ) → search-lts.Need-returns-2 (
 ) (search-at t) search′.Post
 search-returns-2 t c = look-right (rowAt (c .before .before .before .before .before .args .t .now)) (c .before .before .before .before .before .args .n) (λ j h. ruled-links (c .before .before .before .before .before .pre .1 .0) j h) (c .before .before .before .before .before .args .x) (c .before .before .before .before .before .args .lo) (((c .before .before .before .before .before .args .lo) + ((c .before .before .before .before .before .args .hi) - 1)) / 2) (c .before .before .before .before .before .args .hi) _ (c .before .before .before .before .before .pre .1 .1) (omega arith) (omega arith) (omega arith) (c .search .ensures)
 
--- src/lib.rt:313:12
 search-start-at-requires : (t : ℕ) → search-lts.Need-start-at-requires (
   end-at-reads.Asked,
   end-at-reads.Learnt,
@@ -112,7 +104,6 @@ search-start-at-requires : (t : ℕ) → search-lts.Need-start-at-requires (
 ) (search-at t) search′.Post
 search-start-at-requires t c κs = omega arith
 
--- src/lib.rt:314:9
 search-search-requires-2 : (t : ℕ) → search-lts.Need-search-requires-2 (
   end-at-reads.Asked,
   end-at-reads.Learnt,
@@ -123,7 +114,6 @@ search-search-requires-2 : (t : ℕ) → search-lts.Need-search-requires-2 (
 ) (search-at t) search′.Post
 search-search-requires-2 t c κs = (omega (arith, c .before .before .before .before .before .before .pre .0), ((c .before .before .before .before .before .before .pre .1 .0), omega arith))
 
--- src/lib.rt:314:9
 search-returns-3 : (t : ℕ) → search-lts.Need-returns-3 (
   end-at-reads.Asked,
   end-at-reads.Learnt,
@@ -134,7 +124,6 @@ search-returns-3 : (t : ℕ) → search-lts.Need-returns-3 (
 ) (search-at t) search′.Post
 search-returns-3 t c = look-left (rowAt (c .before .before .before .before .before .before .before .args .t .now)) (c .before .before .before .before .before .before .before .args .n) (λ j h. ruled-links (c .before .before .before .before .before .before .before .pre .1 .0) j h) (c .before .before .before .before .before .before .before .args .x) (c .before .before .before .before .before .before .before .args .lo) (((c .before .before .before .before .before .before .before .args .lo) + ((c .before .before .before .before .before .before .before .args .hi) - 1)) / 2) (c .before .before .before .before .before .before .before .args .hi) _ (c .before .before .before .before .before .before .before .pre .1 .1) (omega arith) (omega arith) (omega arith) (c .search2 .ensures)
 
--- src/lib.rt:301:1
 search-returns-4 : (t : ℕ) → search-lts.Need-returns-4 (
   end-at-reads.Asked,
   end-at-reads.Learnt,
