@@ -16,3 +16,4 @@ pub mod Crossing
 pub mod Zeroing
 pub mod Sets
 pub mod Differing
+pub mod Laying
