@@ -15,7 +15,7 @@ use Rattle.ranges.specs.Inner.{rowAt, rowsOf, bare, Ruled}
 use Rattle.ranges.proofs.Plain.{plain, plain-joined, joined-plain}
 
 -- the rows of a slice that begins with one row
-two-on : (s e : ℕ) (l : List ℕ) (j : ℕ) → rowAt (s ∷ e ∷ l) (suc j) ≡ rowAt l j
+pub two-on : (s e : ℕ) (l : List ℕ) (j : ℕ) → rowAt (s ∷ e ∷ l) (suc j) ≡ rowAt l j
 two-on s e l j =
     row-is (ap (λ (n : ℕ). getD (s ∷ e ∷ l) n 0) (let q : 2 * suc j ≡ suc (suc (2 * j)) = omega arith in q))
     (ap (λ (n : ℕ). getD (s ∷ e ∷ l) n 0) (let q : 2 * suc j + 1 ≡ suc (suc (2 * j + 1)) = omega arith in q)) refl

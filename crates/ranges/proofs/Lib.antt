@@ -3,4 +3,11 @@ pub mod Plain
 pub mod Flat
 pub mod Writing
 pub mod Stores
+pub mod Moving
+pub mod Editing
 pub mod Looking
+pub mod Asking
+pub mod Determined
+pub mod Most
+pub mod Starred
+pub mod Refuted

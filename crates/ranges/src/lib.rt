@@ -1,14 +1,17 @@
 // Range tables: rows (start, end) in a lent slice of u32, as start, end, start, end, with a count.
 ghost use mathlib.Core.Path.{_≡_};
 ghost use Prim.Native.Nat.{ℕ, _+_, _-_, _*_, _<_, _≤_, min, max};
+ghost use mathlib.Core.List.{_++_};
 ghost use lib.ListN.{length};
 ghost use Rattle.tables.specs.Answers.{Says};
 ghost use Rattle.tables.specs.Limits.{rowLimit};
-ghost use Rattle.tables.specs.Inner.Rows.{Rows, combined, union, intersection};
+ghost use Rattle.tables.specs.Inner.Rows.{Rows, at, span, combined, union, difference, intersection};
 ghost use Rattle.tables.specs.Inner.Sweep.{Holds};
 ghost use Rattle.tables.specs.Inner.Unite.{Passed, Ended, Counted, Starts, Ends, Last, Adds, United};
 ghost use Rattle.tables.specs.Inner.Cross.{Keeps};
-ghost use Rattle.ranges.specs.Tables.{most, Merged, Intersected};
+ghost use Rattle.tables.specs.Inner.Differ.{GapStart, GapEnd};
+ghost use Rattle.tables.specs.Inner.Edit.{range, Parted, starts, ends, Starting, Ending, Moved, Stands};
+ghost use Rattle.ranges.specs.Tables.{most, Merged, Excluded, Intersected, Inserted, Removed, ContainsClock, FindStart, ClockStart, ClockEnd, Len, IsEmpty, Get};
 ghost use Rattle.ranges.specs.Inner.{rowAt, rowsOf, Ruled, Wrote};
 
 // An index, or none, or why there is no answer.
@@ -271,6 +274,163 @@ fn cross(a: &[u32], n: usize, b: &[u32], m: usize, out: &mut [u32], most: usize)
     k
 }
 
+// Where the gap before row `j` starts: behind the row before.
+fn gap_start(b: &[u32], j: usize) -> u32
+    requires { ⌜ 2 * j ≤ length (now b) ⌝ }
+    ensures { λ r. ⌜ GapStart (rowAt (now (b .entry))) j r ⌝ }
+{
+    if j == 0 {
+        return 0;
+    }
+    end_at(b, j - 1)
+}
+
+// Where the gap before row `j` ends. Behind the last of the `m` rows there is a gap too.
+fn gap_end(b: &[u32], m: usize, j: usize) -> u32
+    requires { ⌜ 2 * m ≤ length (now b) ⌝ }
+    ensures { λ r. ⌜ GapEnd 4294967295 (rowAt (now (b .entry))) m j r ⌝ }
+{
+    if j < m {
+        return start_at(b, j);
+    }
+    4294967295
+}
+
+// The rows of the difference, a row a step: those of the intersection of `a` with the gaps of `b`. While a row is left, so is a gap.
+fn differ(a: &[u32], n: usize, b: &[u32], m: usize, out: &mut [u32], most: usize) -> usize
+    requires { ⌜ Ruled (now a) n ⌝ }
+    requires { ⌜ Ruled (now b) m ⌝ }
+    requires { ⌜ 2 * most ≤ length (now out) ⌝ }
+    ensures { λ r. ⌜ Holds most (rowAt (now (out .exit))) r (combined difference (rowsOf (now (a .entry)) n) (rowsOf (now (b .entry)) m)) ⌝ }
+{
+    let mut i: usize = 0;
+    let mut j: usize = 0;
+    let mut k: usize = 0;
+    while i < n {
+        let p = end_at(a, i);
+        let q = gap_end(b, m, j);
+        let x = higher(start_at(a, i), gap_start(b, j));
+        let y = lower(p, q);
+        i = passed(i, p, y);
+        j = passed(j, q, y);
+        k = keep(out, most, k, x, y);
+    }
+    k
+}
+
+// Whether one of the rows lo, .., hi - 1 holds `x`: each look halves the rows still possible.
+fn search(t: &[u32], n: usize, lo: usize, hi: usize, x: u32) -> bool
+    requires { ⌜ Ruled (now t) n ⌝ }
+    requires { ⌜ hi ≤ n ⌝ }
+    ensures { λ r. ⌜ Says (0 < at (span (rowAt (now (t .entry))) lo (hi - lo)) x) r ⌝ }
+{
+    if hi <= lo {
+        return false;
+    }
+    let mid = (lo + (hi - 1)) / 2;
+    if end_at(t, mid) <= x {
+        return search(t, n, mid + 1, hi, x);
+    }
+    if x < start_at(t, mid) {
+        return search(t, n, lo, mid, x);
+    }
+    true
+}
+
+// Whether the table holds the clock.
+pub fn contains_clock(t: &[u32], n: usize, clock: tables::Clock) -> tables::Told
+    ensures { λ r. ⌜ ContainsClock (now (t .entry)) n (clock .0) r ⌝ }
+{
+    if !well_formed(t, n) {
+        return tables::Told::Refused(varint::Refusal::Malformed);
+    }
+    let x = clock.0;
+    if search(t, n, 0, n, x) {
+        return tables::Told::Yes;
+    }
+    tables::Told::No
+}
+
+// The first row whose end exceeds the clock.
+pub fn find_start(t: &[u32], n: usize, clock: tables::Clock) -> Place
+    ensures { λ r. ⌜ FindStart (now (t .entry)) n (clock .0) r ⌝ }
+{
+    if !well_formed(t, n) {
+        return Place::Refused(varint::Refusal::Malformed);
+    }
+    let x = clock.0;
+    let i = ends_below(t, n, x as u64 + 1);
+    if n <= i {
+        return Place::Nothing;
+    }
+    Place::At(i)
+}
+
+// The first start.
+pub fn clock_start(t: &[u32], n: usize) -> Edge
+    ensures { λ r. ⌜ ClockStart (now (t .entry)) n r ⌝ }
+{
+    if !well_formed(t, n) {
+        return Edge::Refused(varint::Refusal::Malformed);
+    }
+    if n == 0 {
+        return Edge::Nothing;
+    }
+    Edge::At(tables::Clock(start_at(t, 0)))
+}
+
+// The last end.
+pub fn clock_end(t: &[u32], n: usize) -> Edge
+    ensures { λ r. ⌜ ClockEnd (now (t .entry)) n r ⌝ }
+{
+    if !well_formed(t, n) {
+        return Edge::Refused(varint::Refusal::Malformed);
+    }
+    if n == 0 {
+        return Edge::Nothing;
+    }
+    Edge::At(tables::Clock(end_at(t, n - 1)))
+}
+
+// How many rows the table has.
+pub fn len(t: &[u32], n: usize) -> tables::Counted
+    ensures { λ r. ⌜ Len (now (t .entry)) n r ⌝ }
+{
+    if !well_formed(t, n) {
+        return tables::Counted::Refused(varint::Refusal::Malformed);
+    }
+    tables::Counted::Is(n)
+}
+
+// Whether the table has no row.
+pub fn is_empty(t: &[u32], n: usize) -> tables::Told
+    ensures { λ r. ⌜ IsEmpty (now (t .entry)) n r ⌝ }
+{
+    if !well_formed(t, n) {
+        return tables::Told::Refused(varint::Refusal::Malformed);
+    }
+    if n == 0 {
+        return tables::Told::Yes;
+    }
+    tables::Told::No
+}
+
+// The row at an index.
+pub fn get(t: &[u32], n: usize, index: usize) -> Found
+    ensures { λ r. ⌜ Get (now (t .entry)) n index r ⌝ }
+{
+    if !well_formed(t, n) {
+        return Found::Refused(varint::Refusal::Malformed);
+    }
+    if n <= index {
+        return Found::Nothing;
+    }
+    Found::Row(
+        tables::Clock(start_at(t, index)),
+        tables::Clock(end_at(t, index)),
+    )
+}
+
 // Union.
 pub fn merge(a: &[u32], n: usize, b: &[u32], m: usize, out: &mut [u32]) -> tables::Made
     ensures { λ r. ⌜ Merged (now (a .entry)) n (now (b .entry)) m (length (now (out .entry))) (now (out .exit)) r ⌝ }
@@ -281,6 +441,19 @@ pub fn merge(a: &[u32], n: usize, b: &[u32], m: usize, out: &mut [u32]) -> table
     }
     let most = room(out.len());
     let k = unite(a, n, b, m, out, most);
+    finish(out, k)
+}
+
+// Difference.
+pub fn exclude(a: &[u32], n: usize, b: &[u32], m: usize, out: &mut [u32]) -> tables::Made
+    ensures { λ r. ⌜ Excluded (now (a .entry)) n (now (b .entry)) m (length (now (out .entry))) (now (out .exit)) r ⌝ }
+{
+    if !both(a, n, b, m) {
+        tables::zero(out);
+        return tables::Made::Refused(varint::Refusal::Malformed);
+    }
+    let most = room(out.len());
+    let k = differ(a, n, b, m, out, most);
     finish(out, k)
 }
 
@@ -295,4 +468,199 @@ pub fn intersect(a: &[u32], n: usize, b: &[u32], m: usize, out: &mut [u32]) -> t
     let most = room(out.len());
     let k = cross(a, n, b, m, out, most);
     finish(out, k)
+}
+
+// ## Insert, remove and from_ranges: the rows that the range meets are found by halving, the others are copied or moved.
+
+// How many rows end below `x`.
+fn ends_below(t: &[u32], n: usize, x: u64) -> usize
+    requires { ⌜ 2 * n ≤ length (now t) ⌝ }
+    ensures { λ r. ⌜ Parted (ends (rowAt (now (t .entry)))) n x r r ⌝ }
+{
+    let mut lo: usize = 0;
+    let mut hi: usize = n;
+    while lo < hi {
+        let mid = lo + (hi - lo) / 2;
+        if (end_at(t, mid) as u64) < x {
+            lo = mid + 1;
+        } else {
+            hi = mid;
+        }
+    }
+    lo
+}
+
+// How many rows start below `x`, where the first `i` do.
+fn starts_below(t: &[u32], n: usize, i: usize, x: u64) -> usize
+    requires { ⌜ 2 * n ≤ length (now t) ⌝ }
+    requires { ⌜ Parted (starts (rowAt (now t))) n x i n ⌝ }
+    ensures { λ r. ⌜ Parted (starts (rowAt (now (t .entry)))) n x r r ⌝ }
+    ensures { λ r. ⌜ i ≤ r ⌝ }
+{
+    let mut lo: usize = i;
+    let mut hi: usize = n;
+    while lo < hi {
+        let mid = lo + (hi - lo) / 2;
+        if (start_at(t, mid) as u64) < x {
+            lo = mid + 1;
+        } else {
+            hi = mid;
+        }
+    }
+    lo
+}
+
+// The start of row `i`, or `s` where there is no such row.
+fn start_or(t: &[u32], n: usize, i: usize, s: u32) -> u32
+    requires { ⌜ 2 * n ≤ length (now t) ⌝ }
+    ensures { λ r. ⌜ Starting (rowAt (now (t .entry))) n i s r ⌝ }
+{
+    if n <= i {
+        return s;
+    }
+    start_at(t, i)
+}
+
+// The end of the row before `j`, or `e` where there is none.
+fn end_or(t: &[u32], j: usize, e: u32) -> u32
+    requires { ⌜ 2 * j ≤ length (now t) ⌝ }
+    ensures { λ r. ⌜ Ending (rowAt (now (t .entry))) j e r ⌝ }
+{
+    if j == 0 {
+        return e;
+    }
+    end_at(t, j - 1)
+}
+
+// The clocks start, .., end - 1: none if start is not below end.
+struct Piece {
+    start: u32,
+    end: u32,
+}
+
+// How many rows a piece takes.
+fn size(p: Piece) -> usize
+    ensures { λ r. ⌜ r ≡ length (range (p .start) (p .end)) ⌝ }
+{
+    if p.start < p.end { 1 } else { 0 }
+}
+
+// The rows `a` to `b` of `src`, copied to row `c` on.
+fn copy(src: &[u32], a: usize, b: usize, out: &mut [u32], c: usize)
+    requires { ⌜ a ≤ b ⌝ }
+    requires { ⌜ 2 * b ≤ length (now src) ⌝ }
+    requires { ⌜ 2 * (c + (b - a)) ≤ length (now out) ⌝ }
+    ensures { λ r. ⌜ Moved (rowAt (now (src .entry))) a b (rowAt (now (out .entry))) c (rowAt (now (out .exit))) ⌝ }
+{
+    let from = 2 * a;
+    let to = 2 * c;
+    let len = 2 * (b - a);
+    let mut i: usize = 0;
+    while i < len {
+        out[to + i] = src[from + i];
+        i += 1;
+    }
+}
+
+// A piece stored as row `k`, and where the next row stands.
+fn put(out: &mut [u32], k: usize, p: Piece) -> usize
+    requires { ⌜ 2 * (k + length (range (p .start) (p .end))) ≤ length (now out) ⌝ }
+    ensures { λ r. ⌜ Stands (rowAt (now (out .entry))) k (range (p .start) (p .end)) (rowAt (now (out .exit))) r ⌝ }
+{
+    if p.end <= p.start {
+        return k;
+    }
+    out[2 * k] = p.start;
+    out[2 * k + 1] = p.end;
+    k + 1
+}
+
+// The rows before `i`, two pieces, and the rows from `j` on. FULL is decided before a row is stored.
+fn splice(
+    t: &[u32],
+    n: usize,
+    i: usize,
+    j: usize,
+    p: Piece,
+    q: Piece,
+    out: &mut [u32],
+) -> tables::Made
+    requires { ⌜ 2 * n ≤ length (now t) ⌝ }
+    requires { ⌜ i ≤ j ⌝ }
+    requires { ⌜ j ≤ n ⌝ }
+    ensures { λ r. ⌜ Wrote (span (rowAt (now (t .entry))) 0 i ++ ((range (p .start) (p .end) ++ range (q .start) (q .end)) ++ span (rowAt (now (t .entry))) j (n - j))) (length (now (out .entry))) (now (out .exit)) r ⌝ }
+{
+    let k = i + size(p) + size(q) + (n - j);
+    if room(out.len()) < k {
+        return finish(out, k);
+    }
+    copy(t, 0, i, out, 0);
+    let x = put(out, i, p);
+    let y = put(out, x, q);
+    copy(t, j, n, out, y);
+    finish(out, k)
+}
+
+// The table with the clocks start, .., end - 1 put in: one row in the place of those that the range overlaps or touches.
+pub fn insert(
+    rows: &[u32],
+    n: usize,
+    start: tables::Clock,
+    end: tables::Clock,
+    out: &mut [u32],
+) -> tables::Made
+    ensures { λ r. ⌜ Inserted (now (rows .entry)) n (start .0) (end .0) (length (now (out .entry))) (now (out .exit)) r ⌝ }
+{
+    if !well_formed(rows, n) {
+        tables::zero(out);
+        return tables::Made::Refused(varint::Refusal::Malformed);
+    }
+    let s = start.0;
+    let e = end.0;
+    let none = Piece { start: 0, end: 0 };
+    if e <= s {
+        return splice(rows, n, n, n, none, none, out);
+    }
+    let i = ends_below(rows, n, s as u64);
+    let j = starts_below(rows, n, i, e as u64 + 1);
+    let p = start_or(rows, n, i, s);
+    let q = end_or(rows, j, e);
+    let piece = Piece {
+        start: lower(p, s),
+        end: higher(e, q),
+    };
+    splice(rows, n, i, j, piece, none, out)
+}
+
+// The table with the clocks start, .., end - 1 taken out: of the rows that the range overlaps, what lies before it and what lies behind it.
+pub fn remove(
+    rows: &[u32],
+    n: usize,
+    start: tables::Clock,
+    end: tables::Clock,
+    out: &mut [u32],
+) -> tables::Made
+    ensures { λ r. ⌜ Removed (now (rows .entry)) n (start .0) (end .0) (length (now (out .entry))) (now (out .exit)) r ⌝ }
+{
+    if !well_formed(rows, n) {
+        tables::zero(out);
+        return tables::Made::Refused(varint::Refusal::Malformed);
+    }
+    let s = start.0;
+    let e = end.0;
+    let none = Piece { start: 0, end: 0 };
+    if e <= s {
+        return splice(rows, n, n, n, none, none, out);
+    }
+    let i = ends_below(rows, n, s as u64 + 1);
+    let j = starts_below(rows, n, i, e as u64);
+    let first = Piece {
+        start: start_or(rows, n, i, s),
+        end: s,
+    };
+    let last = Piece {
+        start: e,
+        end: end_or(rows, j, e),
+    };
+    splice(rows, n, i, j, first, last, out)
 }

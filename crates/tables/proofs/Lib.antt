@@ -17,3 +17,6 @@ pub mod Zeroing
 pub mod Sets
 pub mod Differing
 pub mod Laying
+pub mod Inserting
+pub mod Placing
+pub mod Viewing

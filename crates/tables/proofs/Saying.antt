@@ -18,3 +18,9 @@ pub says-both : {P Q : Type 0} (p q : Bool) → Says P p → Says Q q → Says (
 says-both true true a b = says-yes (a .right refl, b .right refl)
 says-both true false a b = says-no (λ h. b .wrong refl (h .1))
 says-both false q a b = says-no (λ h. a .wrong refl (h .0))
+
+pub says-one : {P : Type 0} (p q : Bool) → Says P p → Says P q → p ≡ q
+says-one true true a b = refl
+says-one true false a b = absurd (b .wrong refl (a .right refl))
+says-one false true a b = absurd (a .wrong refl (b .right refl))
+says-one false false a b = refl

@@ -4,3 +4,4 @@ pub mod Sweep
 pub mod Unite
 pub mod Cross
 pub mod Differ
+pub mod Edit
