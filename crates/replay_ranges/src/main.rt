@@ -251,7 +251,14 @@ fn one(op: u8, args: &[u64]) {
     let room = within(number(args, 0), 4096);
     let p = table(args, 3, &mut a);
     let x = p.len;
-    let made = edit(op, &a[..x], p.count, clock(args, 1), clock(args, 2), &mut out[..room]);
+    let made = edit(
+        op,
+        &a[..x],
+        p.count,
+        clock(args, 1),
+        clock(args, 2),
+        &mut out[..room],
+    );
     show(made, &out[..room]);
 }
 
