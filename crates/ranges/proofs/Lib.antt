@@ -12,3 +12,4 @@ pub mod Determined
 pub mod Most
 pub mod Starred
 pub mod Refuted
+pub mod Orders
