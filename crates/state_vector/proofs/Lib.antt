@@ -1,0 +1,7 @@
+-- Laws that belong to no one function.
+pub mod Looking
+pub mod Spanning
+pub mod Loops
+pub mod Storing
+pub mod Finding
+pub mod Stepping

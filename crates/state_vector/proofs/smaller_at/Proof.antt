@@ -1,0 +1,51 @@
+use native.Mathlib.Omega.{arith}
+use Rattle.state_vector.proofs.Spanning.{table-climbs}
+use Rattle.state_vector.proofs.Finding.{smaller-here, smaller-absent}
+use borrow.Author.Needs.{needs}
+use Rattle.state_vector.proofs.smaller_at.Statement.{statement}
+use Rattle.state_vector.proofs.smaller_at.Tie as tie
+use Rattle.state_vector.proofs.smaller_at.Reads as reads
+use Rattle.state_vector.proofs.smaller_at.Lts as lts
+use Rattle.state_vector.proofs.find.Reads as find-reads
+use Rattle.state_vector.proofs.least.Reads as least-reads
+use Rattle.state_vector.proofs.stands.Reads as stands-reads
+
+-- src/lib.rt:208:9
+find-requires : tie.Need-find-requires
+find-requires c κs = (omega (arith, c .before .before .pre .few), table-climbs (c .before .before .pre))
+
+-- src/lib.rt:209:8
+stands-requires : tie.Need-stands-requires
+stands-requires c κs = search needs
+
+-- src/lib.rt:210:22
+mul-least : tie.Need-mul-least
+mul-least c = search needs
+
+-- src/lib.rt:210:22
+shared-slice-read-least : tie.Need-shared-slice-read-least
+shared-slice-read-least c = omega (arith, c .before .before .stands .ensures .right (c .before .if1 .taken) .within, c .before .before .before .before .before .before .pre .few)
+
+-- src/lib.rt:210:9
+least-requires : tie.Need-least-requires
+least-requires c κs = search needs
+
+-- src/lib.rt:210:9
+returns : tie.Need-returns
+returns c = smaller-here (c .before .before .before .before .before .before .before .pre) (c .before .before .before .before .find .ensures) _ _ (c .before .before .before .stands .ensures .right (c .before .before .if1 .taken)) (c .least .ensures)
+
+-- src/lib.rt:204:1
+returns-2 : tie.Need-returns-2
+returns-2 c = smaller-absent (c .before .before .before .before .before .pre) (c .before .before .find .ensures) _ (c .before .stands .ensures .wrong (c .if1 .left))
+
+pub smaller-at-spec : {M : Type 1} → statement M
+smaller-at-spec =
+    tie.close
+    (tie.spec
+    find-requires
+    stands-requires
+    mul-least
+    shared-slice-read-least
+    least-requires
+    returns
+    returns-2)
