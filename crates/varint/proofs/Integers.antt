@@ -1,0 +1,181 @@
+-- The laws of signed numbers: their reader's loop, their bytes, and what a number's sign and size are in two's complement. Assumes nothing.
+use Prim.Native.Nat.{ℕ, zero, suc, _+_, _-_, _*_, _/_, _%_, _^_, _≤_, _<_}
+use mathlib.Core.Path.{_≡_, refl, sym, ap, _∙_}
+use mathlib.Core.Bool.{Bool, true, false, cond}
+use mathlib.Core.List.{List, [], _∷_}
+use mathlib.Core.Logic.{⊎-elim}
+use native.Mathlib.Nat.{add-zero, mul-one, mod-eq-of-lt, lt-irrefl}
+use native.Mathlib.Omega.{arith}
+use native.Mathlib.Numerals.{add-one}
+use borrow.Author.Needs.{needs}
+use borrow.Author.Tests.{lt-ltb, le-ltb, lt-leb, le-leb, ltb-true, ltb-false}
+use lib.Dec.{T, leb}
+use lib.Bits.{bitOr, or-zero-l}
+use lib.IntN.{ℤ, pos, negsuc, natAbs}
+use lib.Signed.{mag, ltZ, nonNeg}
+use lib.ListN.{length, getD, set, drop, length-set, drop-of-length-le}
+use lib.Seq.{sets, drop-cons}
+use mir.Syntax.{Width, w8, w64}
+use mir.Val.{Fits, SFits, toZ, ofZ, bits, hbits}
+use mir.ValLaws.{half-full}
+use mir.Facts.{toZ-pos, toZ-ofZ}
+use Rattle.varint.specs.Number.{Answer, done, refused, joined, reads, readBy, tenth, signed, written, bytesOf}
+use Rattle.varint.specs.Integer.{minusAt, signedBytes, intBytes}
+use Rattle.varint.specs.Inner.{Stored}
+use Rattle.varint.proofs.Reading.{Going, over, ended, last, more}
+use Rattle.varint.proofs.Writing.{lt-or-ge, spare, bytes-most, past, ten, counted, room-there, full, wrote-all}
+
+-- The reader's loop, which goes from shift 6, after the first byte, to 69.
+abbrev pub SignedBits : (at : ℕ) → List ℕ → (acc s p : ℕ) → Type 0
+SignedBits at xs acc s p = Going tenth 69 64 at xs (readBy signed xs at) acc s p
+
+-- the first byte's six bits, at shift 0
+pub first-joined : (b : ℕ) → joined 64 0 0 (b % 64) ≡ b % 64
+first-joined b = or-zero-l _ ∙ ap (λ (x : ℕ). x % 2 ^ 64) (mul-one (b % 64)) ∙ mod-eq-of-lt (omega arith)
+
+module _ (at : ℕ) (xs : List ℕ) where
+  pub no-first : length xs ≤ at → refused 1 at ≡ readBy signed xs at
+  unfolding reads
+  no-first l = rw (drop-of-length-le xs l)
+
+  module _ (l : at < length xs) where
+    pub only-first : getD xs at 0 < 128 → done (getD xs at 0 % 64) (at + 1) ≡ readBy signed xs at
+    unfolding reads
+    only-first b = rw (drop-cons xs at 0 l, lt-ltb _ _ b, first-joined (getD xs at 0))
+
+    pub start-bits : 128 ≤ getD xs at 0 → SignedBits at xs (getD xs at 0 % 64) 6 (at + 1)
+    unfolding reads
+    start-bits b = record { same = rw (drop-cons xs at 0 l, le-ltb _ _ b, first-joined (getD xs at 0), add-one); sevens = refl }
+
+-- the tenth byte went on
+module _ {at acc s p : ℕ} {xs : List ℕ} {a : Answer} (g : Going tenth 69 64 at xs a acc s p) (all : 69 ≤ s) where
+  pub over-end : length xs ≤ p → refused 1 at ≡ a
+  over-end l = rw (drop-of-length-le xs l) at (over g all)
+
+  pub over-long : p < length xs → refused 2 at ≡ a
+  over-long l = rw (drop-cons xs p 0 l) at (over g all)
+
+-- for `search`: what answers each need of the signed reader
+pub ruleset signed-reading = (no-first, only-first, start-bits, ended, last, more, over-end, over-long, needs)
+
+-- past the end no byte has the minus bit
+getD-past : (xs : List ℕ) (at : ℕ) → length xs ≤ at → getD xs at 0 ≡ 0
+getD-past [] at h = refl
+getD-past (x ∷ xs) zero h = absurd (lt-irrefl 0 (omega arith))
+getD-past (x ∷ xs) (suc at) h = getD-past xs at (omega arith)
+
+pub no-minus : (xs : List ℕ) (at : ℕ) → length xs ≤ at → false ≡ minusAt xs at
+no-minus xs at h = rw (getD-past xs at h)
+
+-- The bytes: a first one, and those of the rest of the magnitude.
+module _ (minus : Bool) (m : ℕ) where
+  pub signed-last : m < 64 → signedBytes minus m ≡ (m + cond minus 64 0) ∷ []
+  unfolding signedBytes written
+  signed-last h = rw (lt-ltb m 64 h)
+
+  pub signed-more : 64 ≤ m → m < 2 ^ 64 → signedBytes minus m ≡ (128 + m % 64 + cond minus 64 0) ∷ bytesOf (m / 64)
+  unfolding signedBytes written bytesOf
+  signed-more h l = rw (le-ltb m 64 h) (ap (λ (t : List ℕ). (128 + m % 64 + cond minus 64 0) ∷ t) (sym (spare 8 (m / 64) (omega arith))))
+
+  -- how many they are does not hang on the sign
+  pub sign-length : length (signedBytes minus m) ≡ length (signedBytes false m)
+  unfolding signedBytes written
+  sign-length = ⊎-elim (λ (h : m < 64). rw (lt-ltb m 64 h)) (λ (h : 64 ≤ m). rw (le-ltb m 64 h)) (lt-or-ge m 64)
+
+pub signed-ten : (m : ℕ) → Fits w64 m → length (signedBytes false m) ≤ 10
+signed-ten m f =
+    ⊎-elim (λ (h : m < 64). omega (arith, ap length (signed-last false m h)))
+    (λ (h : 64 ≤ m). omega (arith, ap length (signed-more false m h (f .fits)), bytes-most 8 (m / 64) (omega (arith, f .fits))))
+    (lt-or-ge m 64)
+
+-- the length by the magnitude's range
+module _ (m : ℕ) where
+  pub length-one : m < 64 → 1 ≡ length (signedBytes false m)
+  length-one h = sym (ap length (signed-last false m h))
+
+  pub length-small : {k : ℕ} → Fits w64 m → k ≡ length (bytesOf (m / 64)) → Fits w64 (k + 1)
+  length-small f e = record { fits = omega (arith, e, bytes-most 8 (m / 64) (omega (arith, f .fits))) }
+
+  pub length-more : {k : ℕ} → Fits w64 m → 64 ≤ m → k ≡ length (bytesOf (m / 64)) → k + 1 ≡ length (signedBytes false m)
+  length-more f h e = rw (e, signed-more false m h (f .fits)) (add-one _)
+
+-- A number below zero: its bits, complemented, are its distance below -1.
+complement : (m n : ℕ) → n < m → (m - 1) - (m - suc n) ≡ n
+complement m n h = omega arith
+
+pub not-below : (w : Width) (v : ℤ) → SFits w v → ltZ v (pos 0) ≡ true → toZ w ((2 ^ bits w - 1) - ofZ w v) ≡ pos (mag v)
+not-below w (pos a) f h = absurd (lt-irrefl a (omega (arith, ltb-true a 0 h)))
+not-below w (negsuc n) f h = ap (toZ w) (complement (2 ^ bits w) n (half-full w (f .sfits))) ∙ toZ-pos w (f .sfits)
+
+pub natAbs-below : (v : ℤ) → ltZ v (pos 0) ≡ true → mag v + 1 ≡ natAbs v
+natAbs-below (pos a) h = absurd (lt-irrefl a (omega (arith, ltb-true a 0 h)))
+natAbs-below (negsuc n) h = omega arith
+
+pub natAbs-above : (v : ℤ) → ltZ v (pos 0) ≡ false → mag v ≡ natAbs v
+natAbs-above (pos a) h = refl
+natAbs-above (negsuc n) h = absurd (lt-irrefl 0 (let z : _≡_ {A = ℕ} 0 1 = cc in omega arith))
+
+pub nonNeg-above : (v : ℤ) → ltZ v (pos 0) ≡ false → T (nonNeg v)
+nonNeg-above (pos a) h = tt
+nonNeg-above (negsuc n) h = absurd (lt-irrefl 0 (let z : _≡_ {A = ℕ} 0 1 = cc in omega arith))
+
+-- What the code calls a number v, after it went through its bits at a width.
+abbrev pub bitsOf : Width → ℤ → ℤ
+bitsOf w v = toZ w (ofZ w v)
+
+module _ (v : ℤ) {d : ℕ} (f : SFits w64 v) (told : d ≡ mag (bitsOf w64 v)) where
+  far : d ≡ mag v
+  far = told ∙ ap mag (toZ-ofZ f)
+
+  pub one-more-fits : Fits w64 (d + 1)
+  one-more-fits = record { fits = omega (arith, far, f .sfits) }
+
+  pub below-zero : ltZ (bitsOf w64 v) (pos 0) ≡ true → d + 1 ≡ natAbs v
+  below-zero h = rw far (natAbs-below v (rw (toZ-ofZ f) at h))
+
+  pub not-below-zero : ltZ (bitsOf w64 v) (pos 0) ≡ false → d ≡ natAbs v
+  not-below-zero h = rw far (natAbs-above v (rw (toZ-ofZ f) at h))
+
+pub length-int : (v : ℤ) {k r : ℕ} → SFits w64 v → k ≡ natAbs (bitsOf w64 v) → r ≡ length (signedBytes false k) → r ≡ length (intBytes v)
+length-int v f e h = h ∙ rw (e, toZ-ofZ f) (sym (sign-length (ltZ v (pos 0)) (natAbs v)))
+
+pub ruleset sizes = (one-more-fits, below-zero, not-below-zero, length-int, needs)
+
+-- The writer puts a first byte, with the sign's bit f, and the bytes of the rest of the magnitude.
+pub flag-small : (b : Bool) → cond b 64 0 ≤ 64
+flag-small true = omega arith
+flag-small false = omega arith
+
+pub first-within : (minus : Bool) (m at : ℕ) (buf : List ℕ) → Fits w64 m → at + length (signedBytes minus m) ≤ length buf → at < length buf
+first-within minus m at buf f r =
+    ⊎-elim (λ (h : m < 64). omega (arith, ap length (signed-last minus m h), r))
+    (λ (h : 64 ≤ m). omega (arith, ap length (signed-more minus m h (f .fits)), r))
+    (lt-or-ge m 64)
+
+module _ (minus : Bool) (m at : ℕ) (buf : List ℕ) {f : ℕ} (e : f ≡ cond minus 64 0) where
+  pub only-byte : m < 64 → Stored (signedBytes minus m) buf at (set buf at (m + f)) (at + 1)
+  only-byte h = rw (e, signed-last minus m h) (record { place = refl; bytes = refl })
+
+  module _ (fits : Fits w64 m) (h : 64 ≤ m) where
+    pub rest-room : at + length (signedBytes minus m) ≤ length buf → at + 1 + length (bytesOf (m / 64)) ≤ length (set buf at (128 + m % 64 + f))
+    rest-room r = rw length-set (omega (arith, ap length (signed-more minus m h (fits .fits)), r))
+
+    pub rest-put : {after : List ℕ} {p : ℕ} → Stored (bytesOf (m / 64)) (set buf at (128 + m % 64 + f)) (at + 1) after p → Stored (signedBytes minus m) buf at after p
+    rest-put s = rw (signed-more minus m h (fits .fits)) (record { place = s .place ∙ omega arith; bytes = s .bytes ∙ rw (e, add-one) })
+
+  pub small-fits : m < 64 → Fits w8 (m + f)
+  small-fits h = record { fits = omega (arith, e, flag-small minus) }
+
+  pub large-fits : Fits w8 (128 + m % 64 + f)
+  large-fits = record { fits = omega (arith, e, flag-small minus) }
+
+pub set-kept : (after buf : List ℕ) (i x : ℕ) → length after ≡ length (set buf i x) → length after ≡ length buf
+set-kept after buf i x e = e ∙ length-set buf i x
+
+pub ruleset putting = (first-within, only-byte, rest-room, rest-put, small-fits, large-fits, set-kept, needs)
+
+-- the room, which does not hang on the sign
+pub same-room : (minus : Bool) (m at n : ℕ) {t : Bool} → t ≡ leb (at + length (signedBytes false m)) n → t ≡ leb (at + length (signedBytes minus m)) n
+same-room minus m at n e = e ∙ sym (ap (λ (k : ℕ). leb (at + k) n) (sign-length minus m))
+
+pub ruleset signed-room = (past, ten, counted, signed-ten, same-room, room-there, full, wrote-all, needs)
