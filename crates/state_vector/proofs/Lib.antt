@@ -5,3 +5,8 @@ pub mod Loops
 pub mod Storing
 pub mod Finding
 pub mod Stepping
+pub mod Encoding
+pub mod Decoding
+pub mod Determined
+pub mod RoundTrip
+pub mod Starred

@@ -105,7 +105,7 @@ closed cs ks k xs ys h p q = two-of (p ∙ pad cs (λ (r : Row). r .client) (cli
         ap (λ (n : ℕ). take k l ++ replicate (length l - n) 0) (sym (length-take-le k l b))
         ∙ ap (padded (length l)) (sym e ∙ ap (map f) (rows-span k cs ks (omega arith) (omega arith)))
 
-filled-same : (t : List Row) (o o₀ : Slices) → length (o .clients) ≡ length (o₀ .clients) → length (o .clocks) ≡ length (o₀ .clocks) → filled t o ≡ filled t o₀
+pub filled-same : (t : List Row) (o o₀ : Slices) → length (o .clients) ≡ length (o₀ .clients) → length (o .clocks) ≡ length (o₀ .clocks) → filled t o ≡ filled t o₀
 filled-same t o o₀ p q = two-of (ap (λ (n : ℕ). padded n (map (λ (r : Row). r .client) t)) p) (ap (λ (n : ℕ). padded n (map (λ (r : Row). r .clock) t)) q)
 
 -- ## The answers

@@ -8,8 +8,14 @@ use lib.ListN.{length, getD, set}
 use Rattle.varint.specs.declared.Refusal.the-variants.{Full}
 use Rattle.tables.specs.declared.Made.{Made}
 use Rattle.tables.specs.declared.Made.the-variants as made
-use Rattle.state_vector.specs.Rows.{Row, row, Merge, Compare}
+use Rattle.state_vector.specs.Rows.{Row, row, In, at, VectorOf, Merge, Compare}
 use Rattle.state_vector.specs.Vectors.{Slices, two, rowsOf, filled, saidOrder}
+use Rattle.varint.specs.Number.{Written, writeAt}
+use Rattle.varint.specs.Answer.{noOf}
+use Rattle.varint.specs.declared.Refusal.{Refusal}
+use Rattle.state_vector.specs.Bytes.{Pairs, read, stop}
+use Rattle.state_vector.specs.declared.Decoded.{Decoded}
+use Rattle.state_vector.specs.declared.Decoded.the-variants as decoded
 use Rattle.state_vector.specs.declared.Order.{Order}
 use Rattle.state_vector.specs.declared.Order.the-variants as order
 
@@ -94,3 +100,12 @@ judged false false = order.Equal
 pub record Judges (a b : List Row) (r : Order) : Type 0 where
   pub done : saidOrder r .no ≡ 0
   pub right : Compare a b (saidOrder r .value)
+
+-- bytes that fit were put at a place of the buffer; p is the place past them
+pub record Puts (ns buf : List ℕ) (place : ℕ) (after : List ℕ) (p : ℕ) : Type 0 where
+  pub is : record { no = 0; place = p; buffer = after } ≡ writeAt ns buf place
+
+-- what pairs came to, and the vector of their rows in front of the slices
+pub data Reads (most : ℕ) (x : Pairs) (out : Slices) (r : Decoded) : Type 0 where
+  all : (got t : List Row) (n p : ℕ) → x ≡ read got p → r ≡ decoded.Done n p → VectorOf (In got) (at got) t → Holds most out n t → n ≤ most → Reads most x out r
+  none : (e : Refusal) → x ≡ stop (noOf e) → r ≡ decoded.Refused e → Reads most x out r

@@ -2,7 +2,10 @@
 use tables::Client;
 use tables::Clock;
 use tables::Made;
+use varint::ReadU32;
+use varint::ReadU64;
 use varint::Refusal;
+use varint::Wrote;
 ghost use mathlib.Core.Path.{_≡_};
 ghost use mathlib.Core.Bool.{cond};
 ghost use mathlib.Core.List.{[]};
@@ -13,11 +16,19 @@ ghost use Rattle.tables.specs.Answers.{Says};
 ghost use Rattle.tables.specs.Limits.{vectorLimit};
 ghost use Rattle.state_vector.specs.Rows.{row, at, smaller, Set};
 ghost use Rattle.state_vector.specs.Vectors.{two, held, rows, rowsOf, room, Table, filled, Writes, Gets, MinSet, MaxSet, Merged, Compared};
-ghost use Rattle.state_vector.specs.Inner.{Climbs, Finds, Stands, put, Holds, Opens, Closes, Copies, Stores, Passes, Rests, Unites, Nulls, judged, Judges};
+ghost use Rattle.state_vector.specs.Inner.{Climbs, Finds, Stands, put, Holds, Opens, Closes, Copies, Stores, Passes, Rests, Unites, Nulls, judged, Judges, rowAt, span, Puts, Reads};
+ghost use Rattle.state_vector.specs.Bytes.{rowBytes, encoded, Encoded, pairsAt, saidDecoded, Decodes};
+ghost use Rattle.varint.specs.Number.{bytesOf};
 
 // A client's clock, or why there is none.
 pub enum Got {
     Is(Clock),
+    Refused(Refusal),
+}
+
+// How many rows were read and the place past them, or why none.
+pub enum Decoded {
+    Done(usize, usize),
     Refused(Refusal),
 }
 
@@ -117,6 +128,39 @@ pub fn merge(
         most,
     );
     close(to_clients, to_clocks, most, k)
+}
+
+// A vector read at a place. The pairs are kept in order as they come, and one behind the last row costs no search.
+pub fn decode(bytes: &[u8], at: usize, to_clients: &mut [u64], to_clocks: &mut [u32]) -> Decoded
+    ensures { λ r. ⌜ Decodes (now (bytes .entry)) at (two (now («to_clients» .entry)) (now («to_clocks» .entry))) (two (now («to_clients» .exit)) (now («to_clocks» .exit)))
+        (saidDecoded at r) ⌝ }
+{
+    let first = varint::read_u32(bytes, at);
+    let ReadU32::Done(count, start) = first else {
+        clear(to_clients, to_clocks);
+        return Decoded::Refused(varint::why_u32(first));
+    };
+    let most = most_rows(to_clients.len(), to_clocks.len());
+    let got = decode_pairs(bytes, start, count, to_clients, to_clocks, most);
+    let Decoded::Done(n, _) = got else {
+        clear(to_clients, to_clocks);
+        return got;
+    };
+    zero_rest(to_clients, to_clocks, n);
+    got
+}
+
+// The bytes of a vector at a place: the room is tested first.
+pub fn encode(clients: &[u64], clocks: &[u32], count: usize, buf: &mut [u8], at: usize) -> Wrote
+    ensures { λ r. ⌜ Encoded (held (now (clients .entry)) (now (clocks .entry)) count) (now (buf .entry)) at r (now (buf .exit)) ⌝ }
+{
+    if !well_formed(clients, clocks, count) {
+        return Wrote::Refused(Refusal::Malformed);
+    }
+    if !has_room(clients, clocks, count, buf.len(), at) {
+        return Wrote::Refused(Refusal::Full);
+    }
+    Wrote::Done(write_rows(clients, clocks, count, buf, at))
 }
 
 // The order of two vectors: pointwise, with absent as 0.
@@ -254,9 +298,18 @@ fn close(to_clients: &mut [u64], to_clocks: &mut [u32], most: usize, k: usize) -
         clear(to_clients, to_clocks);
         return Made::Refused(Refusal::Full);
     }
+    zero_rest(to_clients, to_clocks, k);
+    Made::Rows(k)
+}
+
+// The first k rows stay, and every later element is zero.
+fn zero_rest(to_clients: &mut [u64], to_clocks: &mut [u32], k: usize)
+    requires { ⌜ k ≤ room (two (now «to_clients») (now «to_clocks»)) ⌝ }
+    ensures { λ r. ⌜ two (now («to_clients» .exit)) (now («to_clocks» .exit))
+        ≡ filled (span (rowAt (two (now («to_clients» .entry)) (now («to_clocks» .entry)))) 0 k) (two (now («to_clients» .entry)) (now («to_clocks» .entry))) ⌝ }
+{
     tables::zero_wide(&mut to_clients[k..]);
     tables::zero(&mut to_clocks[k..]);
-    Made::Rows(k)
 }
 
 // The first n elements.
@@ -554,4 +607,122 @@ fn cmp_rows(
         j = passed(j, q, x);
     }
     verdict(less | any(b_clocks, j, m), greater)
+}
+
+// The pairs declared, each put in its place. It ends: a pair fewer is left each time; and each takes two bytes or more, so it reads no
+// further than the bytes go, whatever count they declare.
+fn decode_pairs(
+    bytes: &[u8],
+    start: usize,
+    count: u32,
+    to_clients: &mut [u64],
+    to_clocks: &mut [u32],
+    most: usize,
+) -> Decoded
+    requires { ⌜ most ≡ min vectorLimit (room (two (now «to_clients») (now «to_clocks»))) ⌝ }
+    ensures { λ r. ⌜ Reads most (pairsAt most (now (bytes .entry)) count [] start) (two (now («to_clients» .exit)) (now («to_clocks» .exit))) r ⌝ }
+{
+    let mut next = start;
+    let mut left = count;
+    let mut n: usize = 0;
+    while 0 < left {
+        let first = varint::read_u64(bytes, next);
+        let ReadU64::Done(client, mid) = first else {
+            return Decoded::Refused(varint::why_u64(first));
+        };
+        let second = varint::read_u32(bytes, mid);
+        let ReadU32::Done(clock, past) = second else {
+            return Decoded::Refused(varint::why_u32(second));
+        };
+        let k = put_row(to_clients, to_clocks, n, most, client, clock);
+        if most < k {
+            return Decoded::Refused(Refusal::Full);
+        }
+        n = k;
+        next = past;
+        left -= 1;
+    }
+    Decoded::Done(n, next)
+}
+
+// No vector has more bytes: a count of two, and 256 rows of fifteen.
+const MOST_BYTES: usize = 3842;
+
+// Whether a vector's bytes fit from a place on, in a buffer of a length. Where the most would fit, none are counted.
+fn has_room(clients: &[u64], clocks: &[u32], n: usize, len: usize, at: usize) -> bool
+    requires { ⌜ Table (held (now clients) (now clocks) n) ⌝ }
+    ensures { λ r. ⌜ Says (at + length (encoded (rowsOf n (now (clients .entry)) (now (clocks .entry)))) ≤ len) r ⌝ }
+{
+    if len < at {
+        return false;
+    }
+    if MOST_BYTES <= len - at {
+        return true;
+    }
+    if len - at < encoded_len(clients, clocks, n) {
+        return false;
+    }
+    true
+}
+
+// How many bytes a vector takes.
+fn encoded_len(clients: &[u64], clocks: &[u32], n: usize) -> usize
+    requires { ⌜ Table (held (now clients) (now clocks) n) ⌝ }
+    ensures { λ r. ⌜ r ≡ length (encoded (rowsOf n (now (clients .entry)) (now (clocks .entry)))) ⌝ }
+{
+    let mut sum = varint::length_u64(n as u64);
+    let mut i: usize = 0;
+    while i < n {
+        let c = varint::length_u64(clients[i]);
+        let k = varint::length_u32(clocks[i]);
+        sum += c + k;
+        i += 1;
+    }
+    sum
+}
+
+// A number's bytes where they fit.
+fn write_number(value: u64, buf: &mut [u8], at: usize) -> usize
+    requires { ⌜ at + length (bytesOf value) ≤ length (now buf) ⌝ }
+    ensures { λ r. ⌜ Puts (bytesOf value) (now (buf .entry)) at (now (buf .exit)) r ⌝ }
+{
+    let w = varint::write_u64(value, buf, at);
+    match w {
+        Wrote::Done(p) => p,
+        Wrote::Refused(_) => at,
+    }
+}
+
+fn wide(clock: u32) -> u64
+    ensures { λ r. ⌜ r ≡ clock ⌝ }
+{
+    clock as u64
+}
+
+// A vector's bytes where they fit.
+fn write_rows(clients: &[u64], clocks: &[u32], n: usize, buf: &mut [u8], at: usize) -> usize
+    requires { ⌜ Table (held (now clients) (now clocks) n) ⌝ }
+    requires { ⌜ at + length (encoded (rowsOf n (now clients) (now clocks))) ≤ length (now buf) ⌝ }
+    ensures { λ r. ⌜ Puts (encoded (rowsOf n (now (clients .entry)) (now (clocks .entry)))) (now (buf .entry)) at (now (buf .exit)) r ⌝ }
+{
+    let next = write_number(n as u64, buf, at);
+    write_pairs(clients, clocks, n, buf, next)
+}
+
+// The bytes of its clients and clocks.
+fn write_pairs(clients: &[u64], clocks: &[u32], n: usize, buf: &mut [u8], at: usize) -> usize
+    requires { ⌜ Table (held (now clients) (now clocks) n) ⌝ }
+    requires { ⌜ at + length (rowBytes (rowsOf n (now clients) (now clocks))) ≤ length (now buf) ⌝ }
+    ensures { λ r. ⌜ Puts (rowBytes (rowsOf n (now (clients .entry)) (now (clocks .entry)))) (now (buf .entry)) at (now (buf .exit)) r ⌝ }
+{
+    let mut next = at;
+    let mut i: usize = 0;
+    while i < n {
+        let c = clients[i];
+        let k = wide(clocks[i]);
+        next = write_number(c, buf, next);
+        next = write_number(k, buf, next);
+        i += 1;
+    }
+    next
 }
