@@ -250,10 +250,10 @@ fn smaller_at(clients: &[u64], clocks: &[u32], n: usize, client: u64, clock: u32
     ensures { λ r. ⌜ r ≡ smaller (rowsOf n (now (clients .entry)) (now (clocks .entry))) client clock ⌝ }
 {
     let i = find(clients, n, client);
-    if stands(clients, n, i, client) {
-        return least(clocks[i], clock);
+    if !stands(clients, n, i, client) {
+        return clock;
     }
-    clock
+    least(clocks[i], clock)
 }
 
 fn least(a: u32, b: u32) -> u32
