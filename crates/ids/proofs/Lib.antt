@@ -9,3 +9,5 @@ pub mod Sharing
 pub mod Inserting
 pub mod Asking
 pub mod Unique
+pub mod Determined
+pub mod Refuted
