@@ -3,20 +3,22 @@
 use mathlib.Core.Path.{_≡_, refl, _∙_, ap, subst⁻¹}
 use mathlib.Core.Logic.{_⊎_, inl, inr, _↔_, ⊎-elim}
 use mathlib.Core.List.{List, [], _∷_, List·Memᴰ, List·Memᴰ·head, List·Memᴰ·tail, List·Memᴰ·cases-cons}
-use Prim.Native.Nat.{ℕ, zero, suc, _≤_, _<_, min, zero-le, suc-le-suc}
+use Prim.Native.Nat.{ℕ, suc, _≤_, _<_, min, zero-le}
 use native.Mathlib.Omega.{arith}
 use native.Mathlib.Decide.{decLe, decLt}
 use native.Mathlib.Nat.{le-refl}
 use lib.ListN.{length, replicate, length-replicate}
 use Rattle.tables.specs.Answers.{done}
+use Rattle.tables.specs.Limits.{rowLimit}
 use Rattle.tables.specs.declared.Made.{Made}
 use Rattle.tables.specs.declared.Made.the-variants.{Rows}
 use Rattle.ids.specs.Rows.{Row, Within, Holds, Before, First, Joined, TableOf}
-use Rattle.ids.specs.Tables.{Slices, Held, rowsOf, three, most, filled, Inserted}
+use Rattle.ids.specs.Tables.{Slices, Held, three, most, filled, Inserted}
 use Rattle.desks.specs.Runs.{Place, desk, Event, reached, Run}
 use Rattle.desks.specs.Demand.{Alone, NoneRefused, SomeOrder}
 use Rattle.desks.specs.Own.{stated}
 use Rattle.desks.proofs.Filling.{rows-filled, table-filled}
+use Rattle.ids.proofs.Numbering.{fit, length-rows}
 use Rattle.ids.proofs.Unique.{table-one}
 use Rattle.desks.proofs.Saying.{brings-answer, fits}
 use Rattle.desks.proofs.Running.{alone-good, insert-brings, same-table, demand}
@@ -196,13 +198,13 @@ front r t j b = elim (decLt (r .start) (r .end)) [
 abbrev spare : ℕ → Slices
 spare n = three (replicate n 0) (replicate n 0) (replicate n 0)
 
-most-spare : (n : ℕ) → n ≤ 1024 → most (spare n) ≡ n
+most-spare : (n : ℕ) → n ≤ rowLimit → most (spare n) ≡ n
 most-spare n h = simp length-replicate (omega arith)
 
 abbrev kept : List Row → ℕ → Held
 kept u n = record { slices = filled u (spare n); count = length u }
 
-inserted : (r : Row) (t : List Row) (f : Front r t) (n : ℕ) → Joined t → length (f .list) ≤ n → n ≤ 1024
+inserted : (r : Row) (t : List Row) (f : Front r t) (n : ℕ) → Joined t → length (f .list) ≤ n → n ≤ rowLimit
     → Inserted (kept t n) r (spare n) (filled (f .list) (spare n)) (Rows (length (f .list)))
 inserted r t f n j l m =
     let e : most (spare n) ≡ n = most-spare n m in
@@ -210,12 +212,12 @@ inserted r t f n j l m =
     (subst⁻¹ (λ (u : List Row). TableOf (λ c k. Holds u c k ⊎ Within r c k) (f .list)) (rows-filled t (spare n)) (f .holds)) (rw e l) refl refl
 
 -- the table of sorted ranges, which a single desk with room for it gets to with none refused
-pub record Reaches (rs : List Row) : Type 0 where
+pub record Way (rs : List Row) : Type 0 where
   pub list : List Row
   pub holds : TableOf (Holds rs) list
   pub below : (q : Row) → AllLe q rs → Below q list
   pub none : (n : ℕ) → length list ≤ n → NoneRefused stated n rs
-  pub alone : (n : ℕ) → length list ≤ n → n ≤ 1024 → Alone stated rs (kept list n)
+  pub alone : (n : ℕ) → length list ≤ n → n ≤ rowLimit → Alone stated rs (kept list n)
 
 front-holds : (r : Row) (rs t : List Row) (f : Front r t) → TableOf (Holds rs) t → TableOf (Holds (r ∷ rs)) (f .list)
 front-holds r rs t f h = (
@@ -234,8 +236,8 @@ accepts r rs t h n l g z o out a p x =
     let e : length (b .0) ≡ length t = ap length (table-one (b .0) t (b .1) h) in
     (length (b .0), b .2 ∙ fits (length (b .0)) (most o) (omega arith))
 
-reaches-more : (r : Row) (rs : List Row) → AllLe r rs → Reaches rs → Reaches (r ∷ rs)
-reaches-more r rs a m =
+way-more : (r : Row) (rs : List Row) → AllLe r rs → Way rs → Way (r ∷ rs)
+way-more r rs a m =
     let f : Front r (m .list) = front r (m .list) (m .holds .0) (m .below r a) in
     let h : TableOf (Holds (r ∷ rs)) (f .list) = front-holds r rs (m .list) f (m .holds) in
     record {
@@ -246,30 +248,24 @@ reaches-more r rs a m =
       alone = λ n l k. (kept (m .list) n, m .alone n (omega (arith, f .longer)) k, spare n, inserted r (m .list) f n (m .holds .0) l k);
     }
 
-reaches : (rs : List Row) → Sorted rs → Reaches rs
-reaches [] s = record { list = []; holds = (tt, λ c k. (λ x. x, λ x. x)); below = λ q z. tt; none = λ n l. tt; alone = λ n l m. refl }
-reaches (r ∷ rs) s = reaches-more r rs (s .0) (reaches rs (s .1))
-
-short : (n : ℕ) (cs ss es : List ℕ) → length (rowsOf n cs ss es) ≤ n
-short zero cs ss es = zero-le
-short (suc n) [] ss es = zero-le
-short (suc n) (c ∷ cs) [] es = zero-le
-short (suc n) (c ∷ cs) (s ∷ ss) [] = zero-le
-short (suc n) (c ∷ cs) (s ∷ ss) (e ∷ es) = suc-le-suc (short n cs ss es)
+way-of : (rs : List Row) → Sorted rs → Way rs
+way-of [] s = record { list = []; holds = (tt, λ c k. (λ x. x, λ x. x)); below = λ q z. tt; none = λ n l. tt; alone = λ n l m. refl }
+way-of (r ∷ rs) s = way-more r rs (s .0) (way-of rs (s .1))
 
 -- of a desk after a run
 module _ (log : List Event) (w : Place → Held) (run : Run stated log w) (d : ℕ) where
   ranges : Order (reached log (desk d))
   ranges = order (reached log (desk d))
 
-  way : Reaches (ranges .list)
-  way = reaches (ranges .list) (ranges .sorted)
+  way : Way (ranges .list)
+  way = way-of (ranges .list) (ranges .sorted)
 
   no-longer : length (way .list) ≤ w (desk d) .count
   no-longer =
       let h : Held = w (desk d) in
-      let e = ap length (demand log w run d .one (way .list) (same-table (ranges .list) (reached log (desk d)) (way .list) (ranges .members) (way .holds))) in
-      omega (arith, short (h .count) (h .slices .clients) (h .slices .starts) (h .slices .ends))
+      let g = demand log w run d in
+      let e = ap length (g .one (way .list) (same-table (ranges .list) (reached log (desk d)) (way .list) (ranges .members) (way .holds))) in
+      omega (arith, length-rows (h .count) _ _ _ (fit (h .count) (h .slices .clients) (h .slices .starts) (h .slices .ends) (omega (arith, g .table .0))))
 
 pub some-order : SomeOrder stated
 some-order log w run d =

@@ -1,5 +1,12 @@
 // The C boundary: each routine of the library under a plain name. Integers, slices (a pointer and a length) and the structs below cross it.
 // Each promise is the routine's own, of the struct that is handed out.
+use ranges::Edge;
+use ranges::Found;
+use tables::Client;
+use tables::Clock;
+use tables::Counted;
+use tables::Made;
+use tables::Told;
 use varint::ReadI8;
 use varint::ReadI16;
 use varint::ReadI32;
@@ -26,7 +33,11 @@ ghost use lib.ListN.{length};
 ghost use Rattle.varint.specs.Number.{readAt, narrowed, bytesOf, writeAt};
 ghost use Rattle.varint.specs.Integer.{signedAt, plain, fitting, intBytes, writeSignedAt};
 ghost use Rattle.varint.specs.Answer.{noOf};
-ghost use Rattle.ffi.specs.Boundary.{number, integer, placed};
+ghost use Rattle.ranges.specs.Tables as of-ranges;
+ghost use Rattle.ids.specs.Rows.{row};
+ghost use Rattle.ids.specs.Tables as of-ids;
+ghost use Rattle.ids.specs.Tables.{held, three};
+ghost use Rattle.ffi.specs.Boundary.{number, integer, placed, Crosses, asRows, asYesNo, asCount, asIndex, asBound, asRow};
 ghost use Rattle.ffi.specs.Inner.{Placed};
 
 // A number read: document 01's number of the answer, 0 for done; the value; the place past it, or as given.
@@ -51,6 +62,52 @@ pub struct Integer {
 pub struct Place {
     pub no: u32,
     pub next: usize,
+}
+
+// A table written: how many rows, 0 if refused.
+#[repr(C)]
+pub struct Rows {
+    pub no: u32,
+    pub count: usize,
+}
+
+// A yes or no: false if refused.
+#[repr(C)]
+pub struct YesNo {
+    pub no: u32,
+    pub value: bool,
+}
+
+// How many: 0 if refused.
+#[repr(C)]
+pub struct Count {
+    pub no: u32,
+    pub value: usize,
+}
+
+// An index, or none: then `some` is false and the value 0.
+#[repr(C)]
+pub struct Index {
+    pub no: u32,
+    pub some: bool,
+    pub value: usize,
+}
+
+// A clock, or none: then `some` is false and the value 0.
+#[repr(C)]
+pub struct Bound {
+    pub no: u32,
+    pub some: bool,
+    pub value: u32,
+}
+
+// A row of a range table, or none: then `some` is false, start and end 0.
+#[repr(C)]
+pub struct Row {
+    pub no: u32,
+    pub some: bool,
+    pub start: u32,
+    pub end: u32,
 }
 
 // Document 01's number of a refusal.
@@ -577,4 +634,410 @@ pub extern "C" fn iz_length_i64(value: i64) -> usize
     ensures { λ r. ⌜ r ≡ length (intBytes value) ⌝ }
 {
     varint::length_i64(value)
+}
+
+// ## The answers of table routines
+
+fn rows_of(got: Made) -> Rows
+    ensures { λ r. ⌜ asRows got ≡ r ⌝ }
+{
+    match got {
+        Made::Rows(n) => Rows { no: 0, count: n },
+        Made::Refused(e) => Rows {
+            no: no_of(e),
+            count: 0,
+        },
+    }
+}
+
+fn yes_no(got: Told) -> YesNo
+    ensures { λ r. ⌜ asYesNo got ≡ r ⌝ }
+{
+    match got {
+        Told::Yes => YesNo { no: 0, value: true },
+        Told::No => YesNo {
+            no: 0,
+            value: false,
+        },
+        Told::Refused(e) => YesNo {
+            no: no_of(e),
+            value: false,
+        },
+    }
+}
+
+fn count_of(got: Counted) -> Count
+    ensures { λ r. ⌜ asCount got ≡ r ⌝ }
+{
+    match got {
+        Counted::Is(n) => Count { no: 0, value: n },
+        Counted::Refused(e) => Count {
+            no: no_of(e),
+            value: 0,
+        },
+    }
+}
+
+fn index_of(got: ranges::Place) -> Index
+    ensures { λ r. ⌜ asIndex got ≡ r ⌝ }
+{
+    match got {
+        ranges::Place::At(i) => Index {
+            no: 0,
+            some: true,
+            value: i,
+        },
+        ranges::Place::Nothing => Index {
+            no: 0,
+            some: false,
+            value: 0,
+        },
+        ranges::Place::Refused(e) => Index {
+            no: no_of(e),
+            some: false,
+            value: 0,
+        },
+    }
+}
+
+fn bound_of(got: Edge) -> Bound
+    ensures { λ r. ⌜ asBound got ≡ r ⌝ }
+{
+    match got {
+        Edge::At(c) => Bound {
+            no: 0,
+            some: true,
+            value: c.0,
+        },
+        Edge::Nothing => Bound {
+            no: 0,
+            some: false,
+            value: 0,
+        },
+        Edge::Refused(e) => Bound {
+            no: no_of(e),
+            some: false,
+            value: 0,
+        },
+    }
+}
+
+fn row_of(got: Found) -> Row
+    ensures { λ r. ⌜ asRow got ≡ r ⌝ }
+{
+    match got {
+        Found::Row(s, e) => Row {
+            no: 0,
+            some: true,
+            start: s.0,
+            end: e.0,
+        },
+        Found::Nothing => Row {
+            no: 0,
+            some: false,
+            start: 0,
+            end: 0,
+        },
+        Found::Refused(e) => Row {
+            no: no_of(e),
+            some: false,
+            start: 0,
+            end: 0,
+        },
+    }
+}
+
+// ## Range tables
+
+#[no_mangle]
+pub extern "C" fn iz_ranges_contains_clock(t: &[u32], n: usize, clock: u32) -> YesNo
+    ensures { λ r. ⌜ Crosses (of-ranges.ContainsClock (now (t .entry)) n clock) asYesNo r ⌝ }
+{
+    yes_no(ranges::contains_clock(t, n, Clock(clock)))
+}
+
+#[no_mangle]
+pub extern "C" fn iz_ranges_find_start(t: &[u32], n: usize, clock: u32) -> Index
+    ensures { λ r. ⌜ Crosses (of-ranges.FindStart (now (t .entry)) n clock) asIndex r ⌝ }
+{
+    index_of(ranges::find_start(t, n, Clock(clock)))
+}
+
+#[no_mangle]
+pub extern "C" fn iz_ranges_clock_start(t: &[u32], n: usize) -> Bound
+    ensures { λ r. ⌜ Crosses (of-ranges.ClockStart (now (t .entry)) n) asBound r ⌝ }
+{
+    bound_of(ranges::clock_start(t, n))
+}
+
+#[no_mangle]
+pub extern "C" fn iz_ranges_clock_end(t: &[u32], n: usize) -> Bound
+    ensures { λ r. ⌜ Crosses (of-ranges.ClockEnd (now (t .entry)) n) asBound r ⌝ }
+{
+    bound_of(ranges::clock_end(t, n))
+}
+
+#[no_mangle]
+pub extern "C" fn iz_ranges_len(t: &[u32], n: usize) -> Count
+    ensures { λ r. ⌜ Crosses (of-ranges.Len (now (t .entry)) n) asCount r ⌝ }
+{
+    count_of(ranges::len(t, n))
+}
+
+#[no_mangle]
+pub extern "C" fn iz_ranges_is_empty(t: &[u32], n: usize) -> YesNo
+    ensures { λ r. ⌜ Crosses (of-ranges.IsEmpty (now (t .entry)) n) asYesNo r ⌝ }
+{
+    yes_no(ranges::is_empty(t, n))
+}
+
+#[no_mangle]
+pub extern "C" fn iz_ranges_get(t: &[u32], n: usize, index: usize) -> Row
+    ensures { λ r. ⌜ Crosses (of-ranges.Get (now (t .entry)) n index) asRow r ⌝ }
+{
+    row_of(ranges::get(t, n, index))
+}
+
+#[no_mangle]
+pub extern "C" fn iz_ranges_insert(
+    t: &[u32],
+    n: usize,
+    start: u32,
+    end: u32,
+    out: &mut [u32],
+) -> Rows
+    ensures { λ r. ⌜ Crosses (of-ranges.Inserted (now (t .entry)) n start end (length (now (out .entry))) (now (out .exit))) asRows r ⌝ }
+{
+    rows_of(ranges::insert(t, n, Clock(start), Clock(end), out))
+}
+
+#[no_mangle]
+pub extern "C" fn iz_ranges_remove(
+    t: &[u32],
+    n: usize,
+    start: u32,
+    end: u32,
+    out: &mut [u32],
+) -> Rows
+    ensures { λ r. ⌜ Crosses (of-ranges.Removed (now (t .entry)) n start end (length (now (out .entry))) (now (out .exit))) asRows r ⌝ }
+{
+    rows_of(ranges::remove(t, n, Clock(start), Clock(end), out))
+}
+
+#[no_mangle]
+pub extern "C" fn iz_ranges_merge(a: &[u32], n: usize, b: &[u32], m: usize, out: &mut [u32]) -> Rows
+    ensures { λ r. ⌜ Crosses (of-ranges.Merged (now (a .entry)) n (now (b .entry)) m (length (now (out .entry))) (now (out .exit))) asRows r ⌝ }
+{
+    rows_of(ranges::merge(a, n, b, m, out))
+}
+
+#[no_mangle]
+pub extern "C" fn iz_ranges_exclude(
+    a: &[u32],
+    n: usize,
+    b: &[u32],
+    m: usize,
+    out: &mut [u32],
+) -> Rows
+    ensures { λ r. ⌜ Crosses (of-ranges.Excluded (now (a .entry)) n (now (b .entry)) m (length (now (out .entry))) (now (out .exit))) asRows r ⌝ }
+{
+    rows_of(ranges::exclude(a, n, b, m, out))
+}
+
+#[no_mangle]
+pub extern "C" fn iz_ranges_intersect(
+    a: &[u32],
+    n: usize,
+    b: &[u32],
+    m: usize,
+    out: &mut [u32],
+) -> Rows
+    ensures { λ r. ⌜ Crosses (of-ranges.Intersected (now (a .entry)) n (now (b .entry)) m (length (now (out .entry))) (now (out .exit))) asRows r ⌝ }
+{
+    rows_of(ranges::intersect(a, n, b, m, out))
+}
+
+// ## Id tables
+
+#[no_mangle]
+pub extern "C" fn iz_ids_capture(
+    clients: &[u64],
+    starts: &[u32],
+    ends: &[u32],
+    count: usize,
+    to_clients: &mut [u64],
+    to_starts: &mut [u32],
+    to_ends: &mut [u32],
+) -> Rows
+    ensures { λ r. ⌜ Crosses (of-ids.Captured (held (now (clients .entry)) (now (starts .entry)) (now (ends .entry)) count)
+        (three (now («to_clients» .entry)) (now («to_starts» .entry)) (now («to_ends» .entry)))
+        (three (now («to_clients» .exit)) (now («to_starts» .exit)) (now («to_ends» .exit)))) asRows r ⌝ }
+{
+    rows_of(ids::capture(clients, starts, ends, count, to_clients, to_starts, to_ends))
+}
+
+#[no_mangle]
+pub extern "C" fn iz_ids_insert_range(
+    clients: &[u64],
+    starts: &[u32],
+    ends: &[u32],
+    count: usize,
+    client: u64,
+    start: u32,
+    end: u32,
+    to_clients: &mut [u64],
+    to_starts: &mut [u32],
+    to_ends: &mut [u32],
+) -> Rows
+    ensures { λ r. ⌜ Crosses (of-ids.Inserted (held (now (clients .entry)) (now (starts .entry)) (now (ends .entry)) count) (row client start end)
+        (three (now («to_clients» .entry)) (now («to_starts» .entry)) (now («to_ends» .entry)))
+        (three (now («to_clients» .exit)) (now («to_starts» .exit)) (now («to_ends» .exit)))) asRows r ⌝ }
+{
+    rows_of(ids::insert_range(
+        clients,
+        starts,
+        ends,
+        count,
+        Client(client),
+        Clock(start),
+        Clock(end),
+        to_clients,
+        to_starts,
+        to_ends,
+    ))
+}
+
+#[no_mangle]
+pub extern "C" fn iz_ids_merge(
+    clients: &[u64],
+    starts: &[u32],
+    ends: &[u32],
+    count: usize,
+    b_clients: &[u64],
+    b_starts: &[u32],
+    b_ends: &[u32],
+    b_count: usize,
+    to_clients: &mut [u64],
+    to_starts: &mut [u32],
+    to_ends: &mut [u32],
+) -> Rows
+    ensures { λ r. ⌜ Crosses (of-ids.Merged (held (now (clients .entry)) (now (starts .entry)) (now (ends .entry)) count)
+        (held (now («b_clients» .entry)) (now («b_starts» .entry)) (now («b_ends» .entry)) «b_count»)
+        (three (now («to_clients» .entry)) (now («to_starts» .entry)) (now («to_ends» .entry)))
+        (three (now («to_clients» .exit)) (now («to_starts» .exit)) (now («to_ends» .exit)))) asRows r ⌝ }
+{
+    rows_of(ids::merge(
+        clients,
+        starts,
+        ends,
+        count,
+        b_clients,
+        b_starts,
+        b_ends,
+        b_count,
+        to_clients,
+        to_starts,
+        to_ends,
+    ))
+}
+
+#[no_mangle]
+pub extern "C" fn iz_ids_diff(
+    clients: &[u64],
+    starts: &[u32],
+    ends: &[u32],
+    count: usize,
+    b_clients: &[u64],
+    b_starts: &[u32],
+    b_ends: &[u32],
+    b_count: usize,
+    to_clients: &mut [u64],
+    to_starts: &mut [u32],
+    to_ends: &mut [u32],
+) -> Rows
+    ensures { λ r. ⌜ Crosses (of-ids.Diffed (held (now (clients .entry)) (now (starts .entry)) (now (ends .entry)) count)
+        (held (now («b_clients» .entry)) (now («b_starts» .entry)) (now («b_ends» .entry)) «b_count»)
+        (three (now («to_clients» .entry)) (now («to_starts» .entry)) (now («to_ends» .entry)))
+        (three (now («to_clients» .exit)) (now («to_starts» .exit)) (now («to_ends» .exit)))) asRows r ⌝ }
+{
+    rows_of(ids::diff(
+        clients,
+        starts,
+        ends,
+        count,
+        b_clients,
+        b_starts,
+        b_ends,
+        b_count,
+        to_clients,
+        to_starts,
+        to_ends,
+    ))
+}
+
+#[no_mangle]
+pub extern "C" fn iz_ids_intersect(
+    clients: &[u64],
+    starts: &[u32],
+    ends: &[u32],
+    count: usize,
+    b_clients: &[u64],
+    b_starts: &[u32],
+    b_ends: &[u32],
+    b_count: usize,
+    to_clients: &mut [u64],
+    to_starts: &mut [u32],
+    to_ends: &mut [u32],
+) -> Rows
+    ensures { λ r. ⌜ Crosses (of-ids.Intersected (held (now (clients .entry)) (now (starts .entry)) (now (ends .entry)) count)
+        (held (now («b_clients» .entry)) (now («b_starts» .entry)) (now («b_ends» .entry)) «b_count»)
+        (three (now («to_clients» .entry)) (now («to_starts» .entry)) (now («to_ends» .entry)))
+        (three (now («to_clients» .exit)) (now («to_starts» .exit)) (now («to_ends» .exit)))) asRows r ⌝ }
+{
+    rows_of(ids::intersect(
+        clients,
+        starts,
+        ends,
+        count,
+        b_clients,
+        b_starts,
+        b_ends,
+        b_count,
+        to_clients,
+        to_starts,
+        to_ends,
+    ))
+}
+
+#[no_mangle]
+pub extern "C" fn iz_ids_contains(
+    clients: &[u64],
+    starts: &[u32],
+    ends: &[u32],
+    count: usize,
+    client: u64,
+    clock: u32,
+) -> YesNo
+    ensures { λ r. ⌜ Crosses (of-ids.Contains (held (now (clients .entry)) (now (starts .entry)) (now (ends .entry)) count) client clock) asYesNo r ⌝ }
+{
+    yes_no(ids::contains(clients, starts, ends, count, Client(client), Clock(clock)))
+}
+
+#[no_mangle]
+pub extern "C" fn iz_ids_is_empty(
+    clients: &[u64],
+    starts: &[u32],
+    ends: &[u32],
+    count: usize,
+) -> YesNo
+    ensures { λ r. ⌜ Crosses (of-ids.Empty (held (now (clients .entry)) (now (starts .entry)) (now (ends .entry)) count)) asYesNo r ⌝ }
+{
+    yes_no(ids::is_empty(clients, starts, ends, count))
+}
+
+#[no_mangle]
+pub extern "C" fn iz_ids_len(clients: &[u64], starts: &[u32], ends: &[u32], count: usize) -> Count
+    ensures { λ r. ⌜ Crosses (of-ids.Len (held (now (clients .entry)) (now (starts .entry)) (now (ends .entry)) count)) asCount r ⌝ }
+{
+    count_of(ids::len(clients, starts, ends, count))
 }

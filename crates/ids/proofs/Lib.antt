@@ -5,6 +5,9 @@ pub mod Reading
 pub mod Answering
 pub mod Placing
 pub mod Merging
+pub mod Sharing
 pub mod Inserting
 pub mod Asking
 pub mod Unique
+pub mod Determined
+pub mod Refuted

@@ -3,16 +3,18 @@
 use mathlib.Core.Path.{_≡_}
 use mathlib.Core.Bool.{Bool, true, false}
 use mathlib.Core.List.{List, []}
-use Prim.Native.Nat.{ℕ, _+_, _-_, _*_, _≤_, _<_, max}
+use Prim.Native.Nat.{ℕ, _+_, _-_, _*_, _≤_, _<_, max, min}
 use lib.ListN.{length, getD}
 use Rattle.tables.specs.Answers.{Says}
 use Rattle.tables.specs.Inner.Rows as inner
 use Rattle.tables.specs.declared.Made.{Made}
 use Rattle.tables.specs.declared.Made.the-variants as made
-use Rattle.tables.specs.Inner.Unite.{Last, Adds, United}
+use Rattle.tables.specs.Inner.Unite.{Last, Passed, Adds, United}
 use Rattle.varint.specs.declared.Refusal.the-variants.{Full}
 use Rattle.ids.specs.declared.Taken.{Taken}
 use Rattle.ids.specs.declared.Added.{Added}
+use Rattle.ids.specs.declared.Shared.{Shared}
+use Rattle.ids.specs.declared.Spot.{Spot}
 use Rattle.ids.specs.Tables.{Slices, three, held, most, rowsOf, filled, Table}
 
 -- the place of an id
@@ -111,6 +113,27 @@ pub record Tail (room : ℕ) (cs ss es : List ℕ) (n i : ℕ) (oc os oe : List 
   pub within : i ≤ n
   pub later : i < n → c ≤ getD cs i 0
   pub few : k ≤ 1024 + i
+
+-- ## An intersection or a difference, a row a step
+
+-- the last place that a clock can name, past every end
+abbrev pub final : ℕ
+final = numberOf 18446744073709551615 4294967295
+
+-- what a row of client c shares with the places t, .., q - 1; the row is s, .., p - 1. What ends first is passed, or both
+pub record Shares (s t p q i j c : ℕ) (r : Shared) : Type 0 where
+  pub one : Passed p (min p q) i (r .i)
+  pub two : Passed q (min p q) j (r .j)
+  pub says : Says (max s t < min p q) (r .on)
+  pub start : max s t < min p q → max s t ≡ numberOf c (r .start)
+  pub end : max s t < min p q → min p q ≡ numberOf c (r .end)
+
+-- the row (c, x, y) stored at k while there is room, and counted if t
+pub record Puts (room : ℕ) (oc os oe : List ℕ) (k c x y : ℕ) (t : Bool) (oc′ os′ oe′ : List ℕ) (r : ℕ) : Type 0 where
+  pub client : Stored room oc k c oc′
+  pub start : Stored room os k x os′
+  pub end : Stored room oe k y oe′
+  pub count : Picked t (k + 1) k r
 
 -- ## Clients counted
 

@@ -6,12 +6,13 @@ ghost use Prim.Native.Nat.{ℕ, _+_, _-_, _≤_, _<_, min};
 ghost use lib.ListN.{length, getD, take, replicate};
 ghost use Rattle.tables.specs.Answers.{Says};
 ghost use Rattle.tables.specs.Limits.{rowLimit};
-ghost use Rattle.tables.specs.Inner.Rows.{at, span, combined, union};
+ghost use Rattle.tables.specs.Inner.Rows.{at, span, combined, union, difference, intersection};
+ghost use Rattle.tables.specs.Inner.Differ.{GapStart, GapEnd};
 ghost use Rattle.tables.specs.Inner.Sweep.{Holds};
 ghost use Rattle.tables.specs.Inner.Unite.{Counted as Counts, United};
 ghost use Rattle.ids.specs.Rows.{row};
-ghost use Rattle.ids.specs.Tables.{three, held, room, rowsOf, filled, Captured, Merged, Inserted, Contains, Empty, Clients, Len};
-ghost use Rattle.ids.specs.Inner.{numberOf, idRow, NoneEmpty, Apart, idRows, IdTable, Checked, Both, Finished, beyond, Picked, Stored, Further, Takes, Open, Joins, Merging, Tail, Fresh};
+ghost use Rattle.ids.specs.Tables.{three, held, room, rowsOf, filled, Captured, Merged, Diffed, Intersected, Inserted, Contains, Empty, Clients, Len};
+ghost use Rattle.ids.specs.Inner.{numberOf, idRow, NoneEmpty, Apart, idRows, IdTable, Checked, Both, Finished, beyond, Picked, Stored, Further, Takes, Open, Joins, Merging, Tail, final, Shares, Puts, Fresh};
 
 // Whether the id (c, x) comes before the id (d, y).
 fn precedes(c: u64, x: u32, d: u64, y: u32) -> bool
@@ -468,6 +469,303 @@ pub fn merge(
     }
     let most = most_rows(to_clients.len(), to_starts.len(), to_ends.len());
     let k = unite(
+        clients,
+        starts,
+        ends,
+        count,
+        b_clients,
+        b_starts,
+        b_ends,
+        b_count,
+        to_clients,
+        to_starts,
+        to_ends,
+        most,
+    );
+    finish(to_clients, to_starts, to_ends, most, k)
+}
+
+// What a row shares with other places, and what is passed.
+pub struct Shared {
+    pub i: usize,
+    pub j: usize,
+    pub start: u32,
+    pub end: u32,
+    pub on: bool,
+}
+
+// What the row (c, x, e) shares with the places from (gc, gx) on that are before (hc, hx). What is shared is of client `c`.
+fn share(i: usize, j: usize, c: u64, x: u32, e: u32, gc: u64, gx: u32, hc: u64, hx: u32) -> Shared
+    requires { ⌜ (i ≤ 1024) × (j ≤ 1024) ⌝ }
+    ensures { λ r. ⌜ Shares (numberOf c x) (numberOf gc gx) (numberOf c e) (numberOf hc hx) i j c r ⌝ }
+{
+    let late = precedes(c, x, gc, gx);
+    let early = precedes(hc, hx, c, e);
+    let sooner = precedes(c, e, hc, hx);
+    let start = pick(late, gx, x);
+    let end = pick(early, hx, e);
+    Shared {
+        i: pick_place(early, i, i + 1),
+        j: pick_place(sooner, j, j + 1),
+        start,
+        end,
+        on: precedes(pick_wide(late, gc, c), start, pick_wide(early, hc, c), end),
+    }
+}
+
+// The row (c, x, y), which is counted if `on`, and else written over.
+fn keep(
+    to_clients: &mut [u64],
+    to_starts: &mut [u32],
+    to_ends: &mut [u32],
+    most: usize,
+    k: usize,
+    c: u64,
+    x: u32,
+    y: u32,
+    on: bool,
+) -> usize
+    requires { ⌜ most ≤ room (three (now «to_clients») (now «to_starts») (now «to_ends»)) ⌝ }
+    requires { ⌜ k ≤ 2048 ⌝ }
+    ensures { λ r. ⌜ Puts most (now («to_clients» .entry)) (now («to_starts» .entry)) (now («to_ends» .entry)) k c x y on
+        (now («to_clients» .exit)) (now («to_starts» .exit)) (now («to_ends» .exit)) r ⌝ }
+{
+    store_wide(to_clients, most, k, c);
+    store(to_starts, most, k, x);
+    store(to_ends, most, k, y);
+    pick_place(on, k + 1, k)
+}
+
+// The rows of the intersection of two tables, as many as there is room for, and how many there are.
+fn cross(
+    clients: &[u64],
+    starts: &[u32],
+    ends: &[u32],
+    n: usize,
+    b_clients: &[u64],
+    b_starts: &[u32],
+    b_ends: &[u32],
+    m: usize,
+    to_clients: &mut [u64],
+    to_starts: &mut [u32],
+    to_ends: &mut [u32],
+    most: usize,
+) -> usize
+    requires { ⌜ IdTable (now clients) (now starts) (now ends) n ⌝ }
+    requires { ⌜ IdTable (now «b_clients») (now «b_starts») (now «b_ends») m ⌝ }
+    requires { ⌜ most ≤ room (three (now «to_clients») (now «to_starts») (now «to_ends»)) ⌝ }
+    ensures { λ r. ⌜ Holds most (idRow (now («to_clients» .exit)) (now («to_starts» .exit)) (now («to_ends» .exit))) r
+        (combined intersection (idRows (now (clients .entry)) (now (starts .entry)) (now (ends .entry)) n)
+        (idRows (now («b_clients» .entry)) (now («b_starts» .entry)) (now («b_ends» .entry)) m)) ⌝ }
+{
+    let mut i: usize = 0;
+    let mut j: usize = 0;
+    let mut k: usize = 0;
+    while i < n {
+        if m <= j {
+            return k;
+        }
+        let c = clients[i];
+        let d = b_clients[j];
+        let t = share(i, j, c, starts[i], ends[i], d, b_starts[j], d, b_ends[j]);
+        k = keep(
+            to_clients,
+            to_starts,
+            to_ends,
+            most,
+            k,
+            c,
+            t.start,
+            t.end,
+            t.on,
+        );
+        i = t.i;
+        j = t.j;
+    }
+    k
+}
+
+// A place among all ids: clients first, then clocks.
+pub struct Spot {
+    pub client: u64,
+    pub clock: u32,
+}
+
+// Where gap `j` of a table starts: gap 0 at the first place, any other behind the row before it.
+fn gap_start(clients: &[u64], starts: &[u32], ends: &[u32], j: usize) -> Spot
+    requires { ⌜ (j ≤ length (now clients)) × (j ≤ length (now ends)) ⌝ }
+    ensures { λ r. ⌜ GapStart (idRow (now (clients .entry)) (now (starts .entry)) (now (ends .entry))) j (numberOf (r .client) (r .clock)) ⌝ }
+{
+    if j == 0 {
+        return Spot {
+            client: 0,
+            clock: 0,
+        };
+    }
+    Spot {
+        client: clients[j - 1],
+        clock: ends[j - 1],
+    }
+}
+
+// Where gap `j` ends: before row `j`, and the gap behind the last row at the last place.
+fn gap_end(clients: &[u64], starts: &[u32], ends: &[u32], m: usize, j: usize) -> Spot
+    requires { ⌜ (m ≤ length (now clients)) × (m ≤ length (now starts)) ⌝ }
+    ensures { λ r. ⌜ GapEnd final (idRow (now (clients .entry)) (now (starts .entry)) (now (ends .entry))) m j (numberOf (r .client) (r .clock)) ⌝ }
+{
+    if m <= j {
+        return Spot {
+            client: 18446744073709551615,
+            clock: 4294967295,
+        };
+    }
+    Spot {
+        client: clients[j],
+        clock: starts[j],
+    }
+}
+
+// The rows of the difference of two tables, as many as there is room for, and how many there are: what the left table shares with the gaps of the right.
+fn differ(
+    clients: &[u64],
+    starts: &[u32],
+    ends: &[u32],
+    n: usize,
+    b_clients: &[u64],
+    b_starts: &[u32],
+    b_ends: &[u32],
+    m: usize,
+    to_clients: &mut [u64],
+    to_starts: &mut [u32],
+    to_ends: &mut [u32],
+    most: usize,
+) -> usize
+    requires { ⌜ IdTable (now clients) (now starts) (now ends) n ⌝ }
+    requires { ⌜ IdTable (now «b_clients») (now «b_starts») (now «b_ends») m ⌝ }
+    requires { ⌜ most ≤ room (three (now «to_clients») (now «to_starts») (now «to_ends»)) ⌝ }
+    ensures { λ r. ⌜ Holds most (idRow (now («to_clients» .exit)) (now («to_starts» .exit)) (now («to_ends» .exit))) r
+        (combined difference (idRows (now (clients .entry)) (now (starts .entry)) (now (ends .entry)) n)
+        (idRows (now («b_clients» .entry)) (now («b_starts» .entry)) (now («b_ends» .entry)) m)) ⌝ }
+{
+    let mut i: usize = 0;
+    let mut j: usize = 0;
+    let mut k: usize = 0;
+    while i < n {
+        let c = clients[i];
+        let g = gap_start(b_clients, b_starts, b_ends, j);
+        let h = gap_end(b_clients, b_starts, b_ends, m, j);
+        let t = share(
+            i,
+            j,
+            c,
+            starts[i],
+            ends[i],
+            g.client,
+            g.clock,
+            h.client,
+            h.clock,
+        );
+        k = keep(
+            to_clients,
+            to_starts,
+            to_ends,
+            most,
+            k,
+            c,
+            t.start,
+            t.end,
+            t.on,
+        );
+        i = t.i;
+        j = t.j;
+    }
+    k
+}
+
+// The difference of two tables.
+pub fn diff(
+    clients: &[u64],
+    starts: &[u32],
+    ends: &[u32],
+    count: usize,
+    b_clients: &[u64],
+    b_starts: &[u32],
+    b_ends: &[u32],
+    b_count: usize,
+    to_clients: &mut [u64],
+    to_starts: &mut [u32],
+    to_ends: &mut [u32],
+) -> tables::Made
+    ensures { λ r. ⌜ Diffed (held (now (clients .entry)) (now (starts .entry)) (now (ends .entry)) count)
+        (held (now («b_clients» .entry)) (now («b_starts» .entry)) (now («b_ends» .entry)) «b_count»)
+        (three (now («to_clients» .entry)) (now («to_starts» .entry)) (now («to_ends» .entry)))
+        (three (now («to_clients» .exit)) (now («to_starts» .exit)) (now («to_ends» .exit))) r ⌝ }
+{
+    if !both_formed(
+        clients,
+        starts,
+        ends,
+        count,
+        b_clients,
+        b_starts,
+        b_ends,
+        b_count,
+    ) {
+        trim(to_clients, to_starts, to_ends, 0);
+        return tables::Made::Refused(varint::Refusal::Malformed);
+    }
+    let most = most_rows(to_clients.len(), to_starts.len(), to_ends.len());
+    let k = differ(
+        clients,
+        starts,
+        ends,
+        count,
+        b_clients,
+        b_starts,
+        b_ends,
+        b_count,
+        to_clients,
+        to_starts,
+        to_ends,
+        most,
+    );
+    finish(to_clients, to_starts, to_ends, most, k)
+}
+
+// The intersection of two tables.
+pub fn intersect(
+    clients: &[u64],
+    starts: &[u32],
+    ends: &[u32],
+    count: usize,
+    b_clients: &[u64],
+    b_starts: &[u32],
+    b_ends: &[u32],
+    b_count: usize,
+    to_clients: &mut [u64],
+    to_starts: &mut [u32],
+    to_ends: &mut [u32],
+) -> tables::Made
+    ensures { λ r. ⌜ Intersected (held (now (clients .entry)) (now (starts .entry)) (now (ends .entry)) count)
+        (held (now («b_clients» .entry)) (now («b_starts» .entry)) (now («b_ends» .entry)) «b_count»)
+        (three (now («to_clients» .entry)) (now («to_starts» .entry)) (now («to_ends» .entry)))
+        (three (now («to_clients» .exit)) (now («to_starts» .exit)) (now («to_ends» .exit))) r ⌝ }
+{
+    if !both_formed(
+        clients,
+        starts,
+        ends,
+        count,
+        b_clients,
+        b_starts,
+        b_ends,
+        b_count,
+    ) {
+        trim(to_clients, to_starts, to_ends, 0);
+        return tables::Made::Refused(varint::Refusal::Malformed);
+    }
+    let most = most_rows(to_clients.len(), to_starts.len(), to_ends.len());
+    let k = cross(
         clients,
         starts,
         ends,

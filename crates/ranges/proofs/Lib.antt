@@ -5,6 +5,7 @@ pub mod Writing
 pub mod Stores
 pub mod Moving
 pub mod Editing
+pub mod Growing
 pub mod Looking
 pub mod Asking
 pub mod Determined

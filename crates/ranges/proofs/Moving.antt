@@ -1,5 +1,5 @@
 -- Elements that are copied one by one, into another slice or inside the same one, and the rows that stand there then. Assumes nothing.
-use mathlib.Core.Path.{_≡_, refl, ap, sym, _∙_}
+use mathlib.Core.Path.{_≡_, refl, ap, sym, subst, _∙_}
 use mathlib.Core.Logic.{⊎-elim}
 use mathlib.Core.List.{List, [], _∷_}
 use Prim.Native.Nat.{ℕ, zero, suc, _+_, _-_, _*_, _≤_, _<_}
@@ -46,6 +46,53 @@ copied-rows {src} {out₀} {out} {a} {b} {c} {i} m h =
           refl;
     }
 
+-- the same inside one slice, downward: what lies ahead is not written over
+pub record Lowered (out₀ : List ℕ) (from to i : ℕ) (out : List ℕ) : Type 0 where
+  pub copied : Copied out₀ from out₀ to i out
+  pub ahead : (x : ℕ) → to + i ≤ x → getD out x 0 ≡ getD out₀ x 0
+
+pub lowered-none : (out : List ℕ) (from to : ℕ) → Lowered out from to 0 out
+lowered-none out from to = record { copied = copied-none out from out to; ahead = λ x h. refl }
+
+pub lowered-more : {out₀ out : List ℕ} {from to i : ℕ} → Lowered out₀ from to i out → to ≤ from → to + i < length out₀
+    → Lowered out₀ from to (i + 1) (set out (to + i) (getD out (from + i) 0))
+lowered-more {out₀} {out} {from} {to} {i} c h l =
+    record {
+      copied = subst (λ (v : ℕ). Copied out₀ from out₀ to (i + 1) (set out (to + i) v)) (sym (c .ahead (from + i) (omega arith))) (copied-more (c .copied) l);
+      ahead = λ x m. getD-set-other out (to + i) x _ 0 (omega arith) ∙ c .ahead x (omega arith);
+    }
+
+-- and upward by one row: the elements from w on to b are moved
+pub record Raised (out₀ : List ℕ) (w b : ℕ) (out : List ℕ) : Type 0 where
+  pub same : length out ≡ length out₀
+  pub before2 : (x : ℕ) → x < w + 2 → getD out x 0 ≡ getD out₀ x 0
+  pub there : (x : ℕ) → w ≤ x → x < b → getD out (x + 2) 0 ≡ getD out₀ x 0
+
+pub raised-none : (out : List ℕ) (b : ℕ) → Raised out b b out
+raised-none out b = record { same = refl; before2 = λ x h. refl; there = λ x h l. absurd (omega arith) }
+
+pub raised-more : {out₀ out : List ℕ} {w b : ℕ} (v : ℕ) → Raised out₀ w b out → suc v ≡ w → v + 2 < length out₀ → Raised out₀ v b (set out (v + 2) (getD out v 0))
+raised-more {out₀} {out} {w} {b} v c e h =
+    record {
+      same = simp length-set (c .same);
+      before2 = λ x l. getD-set-other out (v + 2) x _ 0 (omega arith) ∙ c .before2 x (omega arith);
+      there = λ x l m. ⊎-elim
+          (λ a. getD-set-other out (v + 2) (x + 2) _ 0 (omega arith) ∙ c .there x (omega arith) m)
+          (λ a. ap (λ (y : ℕ). getD (set out (v + 2) (getD out v 0)) (y + 2) 0) (let z : x ≡ v = omega arith in z)
+          ∙ (getD-set-same out (v + 2) _ 0 (omega (arith, c .same)) ∙ (c .before2 v (omega arith) ∙ ap (λ (y : ℕ). getD out₀ y 0) (let z : v ≡ x = omega arith in z))))
+          (split v x);
+    }
+
+pub raised-rows : {out₀ out : List ℕ} {i k w : ℕ} → Raised out₀ w (2 * k) out → w ≡ 2 * i → Moved (rowAt out₀) i k (rowAt out₀) (i + 1) (rowAt out)
+raised-rows {out₀} {out} {i} {k} {w} c e =
+    record {
+      before2 = λ x l. row-is (c .before2 (2 * x) (omega arith)) (c .before2 (2 * x + 1) (omega arith)) refl;
+      there = λ x l. row-is
+          (ap (λ (y : ℕ). getD out y 0) (let z : 2 * (i + 1 + x) ≡ 2 * (i + x) + 2 = omega arith in z) ∙ c .there (2 * (i + x)) (omega arith) (omega arith))
+          (ap (λ (y : ℕ). getD out y 0) (let z : 2 * (i + 1 + x) + 1 ≡ 2 * (i + x) + 1 + 2 = omega arith in z) ∙ c .there (2 * (i + x) + 1) (omega arith) (omega arith))
+          refl;
+    }
+
 -- ## A piece stored
 
 pub size-one : (s e : ℕ) → s < e → length (range s e) ≡ 1
@@ -71,3 +118,10 @@ stands-one l k s e h m =
       there = rw (lt-ltb s e h) (ap (λ r. r ∷ []) (added-at l k m s e));
       next = omega (arith, size-one s e h);
     }
+
+pub stored-other : (l : List ℕ) (k s e x : ℕ) → (x ≡ k → ⊥) → rowAt (set (set l (2 * k) s) (2 * k + 1) e) x ≡ rowAt l x
+stored-other l k s e x h =
+    row-is
+    (getD-set-other (set l (2 * k) s) (2 * k + 1) (2 * x) e 0 (omega arith) ∙ getD-set-other l (2 * k) (2 * x) s 0 (λ z. h (omega arith)))
+    (getD-set-other (set l (2 * k) s) (2 * k + 1) (2 * x + 1) e 0 (λ z. h (omega arith)) ∙ getD-set-other l (2 * k) (2 * x + 1) s 0 (omega arith))
+    refl

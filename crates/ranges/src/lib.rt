@@ -11,7 +11,7 @@ ghost use Rattle.tables.specs.Inner.Unite.{Passed, Ended, Counted, Starts, Ends
 ghost use Rattle.tables.specs.Inner.Cross.{Keeps};
 ghost use Rattle.tables.specs.Inner.Differ.{GapStart, GapEnd};
 ghost use Rattle.tables.specs.Inner.Edit.{range, Parted, starts, ends, Starting, Ending, Moved, Stands};
-ghost use Rattle.ranges.specs.Tables.{most, Merged, Excluded, Intersected, Inserted, Removed, ContainsClock, FindStart, ClockStart, ClockEnd, Len, IsEmpty, Get};
+ghost use Rattle.ranges.specs.Tables.{most, Merged, Excluded, Intersected, Inserted, Removed, FromRanges, ContainsClock, FindStart, ClockStart, ClockEnd, Len, IsEmpty, Get};
 ghost use Rattle.ranges.specs.Inner.{rowAt, rowsOf, Ruled, Wrote};
 
 // An index, or none, or why there is no answer.
@@ -663,4 +663,112 @@ pub fn remove(
         end: end_or(rows, j, e),
     };
     splice(rows, n, i, j, first, last, out)
+}
+
+// The rows from `i` on, one row up: from the back, so that none is written over.
+fn move_up(out: &mut [u32], i: usize, k: usize)
+    requires { ⌜ i ≤ k ⌝ }
+    requires { ⌜ 2 * (k + 1) ≤ length (now out) ⌝ }
+    ensures { λ r. ⌜ Moved (rowAt (now (out .entry))) i k (rowAt (now (out .entry))) (i + 1) (rowAt (now (out .exit))) ⌝ }
+{
+    let from = 2 * i;
+    let mut w = 2 * k;
+    while from < w {
+        let next = w - 1;
+        out[next + 2] = out[next];
+        w = next;
+    }
+}
+
+// The rows from `j` on, down to row `c` on: from the front.
+fn move_down(out: &mut [u32], j: usize, k: usize, c: usize)
+    requires { ⌜ c ≤ j ⌝ }
+    requires { ⌜ j ≤ k ⌝ }
+    requires { ⌜ 2 * k ≤ length (now out) ⌝ }
+    ensures { λ r. ⌜ Moved (rowAt (now (out .entry))) j k (rowAt (now (out .entry))) c (rowAt (now (out .exit))) ⌝ }
+{
+    let from = 2 * j;
+    let to = 2 * c;
+    let len = 2 * (k - j);
+    let mut x: usize = 0;
+    while x < len {
+        out[to + x] = out[from + x];
+        x += 1;
+    }
+}
+
+// The rows from `j` on stand behind row `i` then.
+fn shift(out: &mut [u32], i: usize, j: usize, k: usize)
+    requires { ⌜ i ≤ j ⌝ }
+    requires { ⌜ j ≤ k ⌝ }
+    requires { ⌜ 2 * k ≤ length (now out) ⌝ }
+    requires { ⌜ 2 * (i + 1 + (k - j)) ≤ length (now out) ⌝ }
+    ensures { λ r. ⌜ Moved (rowAt (now (out .entry))) j k (rowAt (now (out .entry))) (i + 1) (rowAt (now (out .exit))) ⌝ }
+{
+    if i == j {
+        move_up(out, j, k);
+        return;
+    }
+    move_down(out, j, k, i + 1);
+}
+
+// How many rows end below `x`: at once where all do, or all but the last.
+fn tail_below(t: &[u32], n: usize, x: u64) -> usize
+    requires { ⌜ 2 * n ≤ length (now t) ⌝ }
+    ensures { λ r. ⌜ Parted (ends (rowAt (now (t .entry)))) n x r r ⌝ }
+{
+    if n < 2 {
+        return ends_below(t, n, x);
+    }
+    if (end_at(t, n - 1) as u64) < x {
+        return n;
+    }
+    if (end_at(t, n - 2) as u64) < x {
+        return n - 1;
+    }
+    ends_below(t, n, x)
+}
+
+// The table of `k` rows with one range more, in its own room, and how many rows it has then: where there is no room for them, nothing is stored.
+fn grow(out: &mut [u32], k: usize, s: u32, e: u32) -> usize
+    requires { ⌜ Ruled (now out) k ⌝ }
+    ensures { λ r. ⌜ Holds (most (length (now (out .entry)))) (rowAt (now (out .exit))) r (combined union (rowsOf (now (out .entry)) k) (range s e)) ⌝ }
+{
+    if e <= s {
+        return k;
+    }
+    let i = tail_below(out, k, s as u64);
+    let j = starts_below(out, k, i, e as u64 + 1);
+    let p = lower(start_or(out, k, i, s), s);
+    let q = higher(e, end_or(out, j, e));
+    let r = i + 1 + (k - j);
+    if room(out.len()) < r {
+        return r;
+    }
+    shift(out, i, j, k);
+    out[2 * i] = p;
+    out[2 * i + 1] = q;
+    r
+}
+
+// The table of the first `n` start, end pairs of `l`, put in one after the other, in the output itself.
+pub fn from_ranges(l: &[u32], n: usize, out: &mut [u32]) -> tables::Made
+    ensures { λ r. ⌜ FromRanges (now (l .entry)) n (length (now (out .entry))) (now (out .exit)) r ⌝ }
+{
+    if l.len() / 2 < n {
+        tables::zero(out);
+        return tables::Made::Refused(varint::Refusal::Malformed);
+    }
+    let most = room(out.len());
+    let mut k: usize = 0;
+    let mut i: usize = 0;
+    while i < n {
+        k = grow(out, k, start_at(l, i), end_at(l, i));
+        if most < k {
+            tables::zero(out);
+            return tables::Made::Refused(varint::Refusal::Full);
+        }
+        i += 1;
+    }
+    finish(out, k)
 }

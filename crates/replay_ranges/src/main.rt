@@ -24,7 +24,7 @@ ghost use mathlib.Core.Path.{_≡_};
 ghost use lib.ListN.{length};
 
 // The numbers of a line, and the place behind it.
-struct Line {
+struct Read {
     count: usize,
     next: usize,
 }
@@ -60,7 +60,7 @@ fn put(args: &mut [u64], k: usize, x: u64, wanted: bool) -> usize
 }
 
 // The numbers of the line that starts at `from`.
-fn line(b: &[u8], from: usize, args: &mut [u64]) -> Line {
+fn line(b: &[u8], from: usize, args: &mut [u64]) -> Read {
     let mut i = from;
     let mut k: usize = 0;
     let mut x: u64 = 0;
@@ -73,10 +73,10 @@ fn line(b: &[u8], from: usize, args: &mut [u64]) -> Line {
         x = digit(x, c);
         within = is_digit;
         if c == 10 {
-            return Line { count: k, next: i };
+            return Read { count: k, next: i };
         }
     }
-    Line { count: k, next: i }
+    Read { count: k, next: i }
 }
 
 // A case: its numbers are args[..count].
@@ -96,7 +96,7 @@ fn within(x: u64, most: usize) -> usize
 }
 
 // A table of the line: its count, how many elements it has, and the place behind it.
-struct Table {
+struct Given {
     count: usize,
     len: usize,
     next: usize,
@@ -114,13 +114,13 @@ fn clocks(args: &[u64], from: usize, n: usize, out: &mut [u32]) {
     }
 }
 
-fn table(args: &[u64], at: usize, out: &mut [u32]) -> Table
+fn table(args: &[u64], at: usize, out: &mut [u32]) -> Given
     ensures { λ r. ⌜ r .len ≤ length (now (out .entry)) ⌝ }
 {
     let len = within(number(args, std::num::wrapping_add_usize(at, 1)), out.len());
     let from = std::num::wrapping_add_usize(at, 2);
     clocks(args, from, len, out);
-    Table {
+    Given {
         count: number(args, at) as usize,
         len: len,
         next: std::num::wrapping_add_usize(from, len),
@@ -223,18 +223,51 @@ fn combine(op: u8, a: &[u32], n: usize, b: &[u32], m: usize, out: &mut [u32]) ->
     ranges::intersect(a, n, b, m, out)
 }
 
+// What was made in the first `room` elements.
+fn made_in(made: tables::Made, out: &[u32], room: usize) {
+    if out.len() < room {
+        return;
+    }
+    show(made, &out[..room]);
+}
+
+fn combine_in(
+    op: u8,
+    a: &[u32],
+    x: usize,
+    n: usize,
+    b: &[u32],
+    y: usize,
+    m: usize,
+    out: &mut [u32],
+    room: usize,
+) {
+    if a.len() < x {
+        return;
+    }
+    if b.len() < y {
+        return;
+    }
+    if out.len() < room {
+        return;
+    }
+    let made = combine(op, &a[..x], n, &b[..y], m, &mut out[..room]);
+    made_in(made, out, room);
+}
+
+fn both_in(op: u8, args: &[u64], a: &mut [u32], b: &mut [u32], out: &mut [u32]) {
+    let p = table(args, 1, a);
+    let q = table(args, p.next, b);
+    let room = within(number(args, 0), out.len());
+    combine_in(op, a, p.len, p.count, b, q.len, q.count, out, room);
+}
+
 // The case of a routine over two tables.
 fn both(op: u8, args: &[u64]) {
     let mut a = [0u32; 4096];
     let mut b = [0u32; 4096];
     let mut out = [4294967295u32; 4096];
-    let room = within(number(args, 0), 4096);
-    let p = table(args, 1, &mut a);
-    let q = table(args, p.next, &mut b);
-    let x = p.len;
-    let y = q.len;
-    let made = combine(op, &a[..x], p.count, &b[..y], q.count, &mut out[..room]);
-    show(made, &out[..room]);
+    both_in(op, args, &mut a, &mut b, &mut out);
 }
 
 fn edit(op: u8, t: &[u32], n: usize, s: u32, e: u32, out: &mut [u32]) -> tables::Made {
@@ -244,15 +277,35 @@ fn edit(op: u8, t: &[u32], n: usize, s: u32, e: u32, out: &mut [u32]) -> tables:
     ranges::remove(t, n, tables::Clock(s), tables::Clock(e), out)
 }
 
+fn edit_in(op: u8, args: &[u64], a: &[u32], x: usize, n: usize, out: &mut [u32], room: usize) {
+    if a.len() < x {
+        return;
+    }
+    if out.len() < room {
+        return;
+    }
+    let made = edit(
+        op,
+        &a[..x],
+        n,
+        clock(args, 1),
+        clock(args, 2),
+        &mut out[..room],
+    );
+    made_in(made, out, room);
+}
+
+fn one_in(op: u8, args: &[u64], a: &mut [u32], out: &mut [u32]) {
+    let p = table(args, 3, a);
+    let room = within(number(args, 0), out.len());
+    edit_in(op, args, a, p.len, p.count, out, room);
+}
+
 // The case of an insert or a remove.
 fn one(op: u8, args: &[u64]) {
     let mut a = [0u32; 4096];
     let mut out = [4294967295u32; 4096];
-    let room = within(number(args, 0), 4096);
-    let p = table(args, 3, &mut a);
-    let x = p.len;
-    let made = edit(op, &a[..x], p.count, clock(args, 1), clock(args, 2), &mut out[..room]);
-    show(made, &out[..room]);
+    one_in(op, args, &mut a, &mut out);
 }
 
 fn told(r: tables::Told) {
@@ -298,33 +351,34 @@ fn counted(r: tables::Counted) {
     }
 }
 
+fn question(op: u8, args: &[u64], t: &[u32], n: usize) {
+    match op {
+        b'c' => told(ranges::contains_clock(t, n, tables::Clock(clock(args, 0)))),
+        b's' => place(ranges::find_start(t, n, tables::Clock(clock(args, 0)))),
+        b'b' => edge(ranges::clock_start(t, n)),
+        b'e' => edge(ranges::clock_end(t, n)),
+        b'l' => counted(ranges::len(t, n)),
+        b'z' => told(ranges::is_empty(t, n)),
+        _ => found(ranges::get(t, n, number(args, 0) as usize)),
+    }
+}
+
+fn question_in(op: u8, args: &[u64], a: &[u32], x: usize, n: usize) {
+    if a.len() < x {
+        return;
+    }
+    question(op, args, &a[..x], n);
+}
+
+fn ask_in(op: u8, args: &[u64], first: usize, a: &mut [u32]) {
+    let p = table(args, first, a);
+    question_in(op, args, a, p.len, p.count);
+}
+
 // The case of a question about a table, with a number before it or none.
 fn ask(op: u8, args: &[u64], first: usize) {
     let mut a = [0u32; 4096];
-    let p = table(args, first, &mut a);
-    let x = p.len;
-    let n = p.count;
-    if op == b'c' {
-        told(ranges::contains_clock(&a[..x], n, tables::Clock(clock(args, 0))));
-    }
-    if op == b's' {
-        place(ranges::find_start(&a[..x], n, tables::Clock(clock(args, 0))));
-    }
-    if op == b'b' {
-        edge(ranges::clock_start(&a[..x], n));
-    }
-    if op == b'e' {
-        edge(ranges::clock_end(&a[..x], n));
-    }
-    if op == b'l' {
-        counted(ranges::len(&a[..x], n));
-    }
-    if op == b'z' {
-        told(ranges::is_empty(&a[..x], n));
-    }
-    if op == b'g' {
-        found(ranges::get(&a[..x], n, number(args, 0) as usize));
-    }
+    ask_in(op, args, first, &mut a);
 }
 
 fn answer(op: u8, args: &[u64]) {
@@ -332,7 +386,8 @@ fn answer(op: u8, args: &[u64]) {
         b'm' | b'x' | b'i' => both(op, args),
         b'n' | b'r' => one(op, args),
         b'c' | b's' | b'g' => ask(op, args, 1),
-        _ => ask(op, args, 0),
+        b'b' | b'e' | b'l' | b'z' => ask(op, args, 0),
+        _ => {}
     }
     io::write_all(1, &[10]);
 }

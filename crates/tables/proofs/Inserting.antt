@@ -39,6 +39,11 @@ module _ {mark : ℕ → ℕ} {n x lo hi : ℕ} (mid : ℕ) where
   pub parted-left : Parted mark n x lo hi → lo ≤ mid → mid < hi → x ≤ mark mid → Parted mark n x lo mid
   parted-left p a b h = record { order = a; within = omega (arith, p .within); below = p .below; above = λ _. h }
 
+-- a place that two looks settle
+pub parted-at : {mark : ℕ → ℕ} {n x i : ℕ} (m : ℕ) → suc m ≡ i → i ≤ n → mark m < x → (i < n → x ≤ mark i) → Parted mark n x i i
+parted-at {mark} {n} {x} {i} m e h l g =
+    record { order = omega arith; within = h; below = λ k d. subst (λ (j : ℕ). mark j < x) (let z : m ≡ k = omega arith in z) l; above = g }
+
 -- the two ends met
 pub parted-met : {mark : ℕ → ℕ} {n x lo hi : ℕ} → Parted mark n x lo hi → hi ≤ lo → Parted mark n x lo lo
 parted-met {mark} {n} {x} {lo} {hi} p h = subst (λ (k : ℕ). Parted mark n x lo k) (let z : hi ≡ lo = omega (arith, p .order) in z) p

@@ -16,6 +16,7 @@ pub mod Crossing
 pub mod Zeroing
 pub mod Sets
 pub mod Differing
+pub mod Laying
 pub mod Inserting
 pub mod Placing
 pub mod Viewing

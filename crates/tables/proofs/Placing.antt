@@ -36,6 +36,9 @@ module _ {row row′ : ℕ → Row} where
   pub laid-stands : {k r : ℕ} (rs : Rows) {ys : Rows} → span row 0 k ≡ rs → Stands row k ys row′ r → span row′ 0 r ≡ rs ++ ys
   laid-stands {k} rs {ys} e s = ap (span row′ 0) (s .next) ∙ (front-and k (length ys) rs (s .before2) e ∙ ap (λ (l : Rows). rs ++ l) (s .there))
 
+pub moved-to : {src row row′ : ℕ → Row} {a b c c′ : ℕ} → c ≡ c′ → Moved src a b row c row′ → Moved src a b row c′ row′
+moved-to {src} {row} {row′} {a} {b} e m = subst (λ (c : ℕ). Moved src a b row c row′) e m
+
 -- a front, at most two parts, and a back, each laid behind the one before
 pub laid-four : (row row₁ row₂ row₃ row₄ src : ℕ → Row) {i j n x y : ℕ} {mid more : Rows} → Moved src 0 i row 0 row₁ → Stands row₁ i mid row₂ x → Stands row₂ x more row₃ y
     → Moved src j n row₃ y row₄ → span row₄ 0 (y + (n - j)) ≡ span src 0 i ++ ((mid ++ more) ++ span src j (n - j))
