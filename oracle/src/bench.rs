@@ -412,7 +412,7 @@ impl Bench {
             v.push(None);
             self.growth.push((name.into(), v));
         }
-        for (name, v) in &self.growth { println!("{name:<44} {}", v.iter().map(|x| x.map_or("-".into(), |(n, y, o)| format!("{o:.0} ns ({:.2} a row, {:.2} of yrs)", o / n as f64, o / y))).collect::<Vec<_>>().join("  ")) }
+        for (name, v) in &self.growth { println!("{name:<44} {}", v.iter().map(|x| x.map_or("-".into(), |(n, y, o)| format!("{o:.0} ns ({:.2} a row{})", o / n as f64, if y.is_nan() { String::new() } else { format!(", {:.2} of yrs", o / y) }))).collect::<Vec<_>>().join("  ")) }
     }
 }
 
