@@ -32,6 +32,21 @@ def as_rust(text):
     text = re.sub(r'std::num::wrapping_(\w+)_(\w+)\(', r'\2::wrapping_\1(', text)
     return text
 
+def over_pointers(text):
+    """The boundary's functions over a pointer and a length for each slice, as `rt staticlib` lays them out."""
+    raw = ''
+    for m in re.finditer(r'pub extern "C" fn (\w+)\(([^)]*)\)( -> \w+)?', text):
+        name, args, ret = m.group(1), m.group(2), m.group(3) or ''
+        c, call = [], []
+        for a in filter(None, (x.strip() for x in args.split(','))):
+            n, t = (x.strip() for x in a.split(':'))
+            s = re.match(r'&(mut )?\[(\w+)\]', t)
+            c.append(f'{n}: *{"mut" if s.group(1) else "const"} {s.group(2)}, {n}_len: usize' if s else a)
+            call.append(f'std::slice::from_raw_parts{"_mut" if s.group(1) else ""}({n}, {n}_len)' if s else n)
+        raw += f'#[no_mangle] pub unsafe extern "C" fn {name}({", ".join(c)}){ret} {{ super::{name}({", ".join(call)}) }}\n'
+    text = text.replace('#[no_mangle]', '').replace('pub extern "C" fn', 'pub fn')
+    return text + f'pub mod raw {{ use super::*;\n{raw}}}\n'
+
 def build(out, edit):
     crates = [l.split(':')[0].strip() for l in open(root + '/crates.txt') if l.strip() and not l.startswith('#')]
     deps = {l.split(':')[0].strip(): l.split(':')[1].split() for l in open(root + '/crates.txt') if l.strip() and not l.startswith('#')}
@@ -45,7 +60,8 @@ def build(out, edit):
                 at = text.index(edit['old'], at)
                 text = text[:at] + edit['new'] + text[at + len(edit['old']):]
             uses = ''.join(f'use crate::{d};\n' for d in deps[c] if os.path.exists(f'{root}/crates/{d}'))
-            whole += f'pub mod {c} {{\n{uses}{as_rust(text)}\n}}\n'
+            rust = as_rust(text)
+            whole += f'pub mod {c} {{\n{uses}{over_pointers(rust) if c == "ffi" else rust}\n}}\n'
     os.makedirs(out, exist_ok=True)
     open(out + '/ffi.rs', 'w', encoding='utf-8').write(whole)
     r = subprocess.run(['rustc', '--edition', '2021', '--crate-type', 'staticlib', '-O', '-C', 'panic=abort', '-C', 'overflow-checks=on', '-o', out + '/libffi.a', out + '/ffi.rs'], capture_output=True, text=True)

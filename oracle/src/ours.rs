@@ -67,10 +67,65 @@ mod linked {
         Answer { no: p.no, next: p.next, bytes, ..Answer::default() }
     }
 
+    fn yes(r: YesNo) -> Answer { Answer { no: r.no, some: r.value, ..Answer::default() } }
+    fn count(r: Count) -> Answer { Answer { no: r.no, value: r.value as u64, ..Answer::default() } }
+    fn index(r: Index) -> Answer { Answer { no: r.no, some: r.some, value: r.value as u64, ..Answer::default() } }
+    fn bound(r: Bound) -> Answer { Answer { no: r.no, some: r.some, value: r.value as u64, ..Answer::default() } }
+    fn row(r: Row) -> Answer { Answer { no: r.no, some: r.some, value: r.start as u64, second: r.end as u64, ..Answer::default() } }
+
+    /// The output with every element of its slices, and the count.
+    fn table(c: &Case, f: impl FnOnce(&mut Table) -> Rows) -> Answer {
+        let mut out = c.out.clone();
+        let r = f(&mut out);
+        out.n = r.count;
+        Answer { no: r.no, out, ..Answer::default() }
+    }
+
+    fn ranges(c: &Case) -> Answer {
+        let (t, n, b, m) = (&c.a.ints[..], c.a.n, &c.b.ints[..], c.b.n);
+        let clock = c.start as u32;
+        match c.op {
+            Contains => yes(iz_ranges_contains_clock(t, n, clock)),
+            FindStart => index(iz_ranges_find_start(t, n, clock)),
+            ClockStart => bound(iz_ranges_clock_start(t, n)),
+            ClockEnd => bound(iz_ranges_clock_end(t, n)),
+            Len => count(iz_ranges_len(t, n)),
+            IsEmpty => yes(iz_ranges_is_empty(t, n)),
+            Get => row(iz_ranges_get(t, n, c.start as usize)),
+            Insert => table(c, |o| iz_ranges_insert(t, n, clock, c.end, &mut o.ints)),
+            Remove => table(c, |o| iz_ranges_remove(t, n, clock, c.end, &mut o.ints)),
+            Merge => table(c, |o| iz_ranges_merge(t, n, b, m, &mut o.ints)),
+            Exclude => table(c, |o| iz_ranges_exclude(t, n, b, m, &mut o.ints)),
+            Intersect => table(c, |o| iz_ranges_intersect(t, n, b, m, &mut o.ints)),
+            FromRanges => table(c, |o| iz_ranges_from_ranges(t, n, &mut o.ints)),
+            _ => unreachable!(),
+        }
+    }
+
+    fn ids(c: &Case) -> Answer {
+        let (a, b) = (&c.a, &c.b);
+        let (x, y, z, n) = (&a.longs[..], &a.ints[..], &a.more[..], a.n);
+        let (p, q, r, m) = (&b.longs[..], &b.ints[..], &b.more[..], b.n);
+        let clock = c.start as u32;
+        match c.op {
+            IdInsert => table(c, |o| iz_ids_insert_range(x, y, z, n, c.client, clock, c.end, &mut o.longs, &mut o.ints, &mut o.more)),
+            IdContains => yes(iz_ids_contains(x, y, z, n, c.client, clock)),
+            IdMerge => table(c, |o| iz_ids_merge(x, y, z, n, p, q, r, m, &mut o.longs, &mut o.ints, &mut o.more)),
+            IdDiff => table(c, |o| iz_ids_diff(x, y, z, n, p, q, r, m, &mut o.longs, &mut o.ints, &mut o.more)),
+            IdIntersect => table(c, |o| iz_ids_intersect(x, y, z, n, p, q, r, m, &mut o.longs, &mut o.ints, &mut o.more)),
+            IdIsEmpty => yes(iz_ids_is_empty(x, y, z, n)),
+            IdLen => count(iz_ids_len(x, y, z, n)),
+            IdCapture => table(c, |o| iz_ids_capture(x, y, z, n, &mut o.longs, &mut o.ints, &mut o.more)),
+            _ => unreachable!(),
+        }
+    }
+
     pub fn answer(c: &Case) -> Option<Answer> {
         match c.op {
             Read(_) | ReadSigned(_) => number(c).map(|n| n.into()),
             Write(_) | WriteSigned(_) => Some(write(c)),
+            o if o.kind() == Kind::Range => Some(ranges(c)),
+            o if o.kind() == Kind::Id => Some(ids(c)),
             _ => None,
         }
     }

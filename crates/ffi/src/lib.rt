@@ -749,6 +749,8 @@ fn row_of(got: Found) -> Row
 
 // ## Range tables
 
+// ## Range tables
+
 #[no_mangle]
 pub extern "C" fn iz_ranges_contains_clock(t: &[u32], n: usize, clock: u32) -> YesNo
     ensures { λ r. ⌜ Crosses (of-ranges.ContainsClock (now (t .entry)) n clock) asYesNo r ⌝ }
@@ -855,6 +857,13 @@ pub extern "C" fn iz_ranges_intersect(
     ensures { λ r. ⌜ Crosses (of-ranges.Intersected (now (a .entry)) n (now (b .entry)) m (length (now (out .entry))) (now (out .exit))) asRows r ⌝ }
 {
     rows_of(ranges::intersect(a, n, b, m, out))
+}
+
+#[no_mangle]
+pub extern "C" fn iz_ranges_from_ranges(l: &[u32], n: usize, out: &mut [u32]) -> Rows
+    ensures { λ r. ⌜ Crosses (of-ranges.FromRanges (now (l .entry)) n (length (now (out .entry))) (now (out .exit))) asRows r ⌝ }
+{
+    rows_of(ranges::from_ranges(l, n, out))
 }
 
 // ## Id tables
