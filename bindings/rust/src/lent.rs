@@ -151,4 +151,5 @@ pub mod ids {
     }
 }
 
+#[cfg(vectors)]
 pub mod vectors;
