@@ -13,3 +13,4 @@ pub mod Most
 pub mod Starred
 pub mod Refuted
 pub mod Same
+pub mod Orders

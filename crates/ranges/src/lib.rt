@@ -10,7 +10,7 @@ ghost use Rattle.tables.specs.Inner.Sweep.{Holds};
 ghost use Rattle.tables.specs.Inner.Unite.{Passed, Ended, Counted, Starts, Ends, Last, Adds, United};
 ghost use Rattle.tables.specs.Inner.Cross.{Keeps};
 ghost use Rattle.tables.specs.Inner.Differ.{GapStart, GapEnd};
-ghost use Rattle.tables.specs.Inner.Edit.{range, Parted, starts, ends, Starting, Ending, Moved, Stands};
+ghost use Rattle.tables.specs.Inner.Edit.{range, Advanced, Parted, starts, ends, Starting, Ending, Moved, Stands};
 ghost use Rattle.ranges.specs.Tables.{most, Merged, Excluded, Intersected, Inserted, Removed, FromRanges, ContainsClock, FindStart, ClockStart, ClockEnd, Len, IsEmpty, Get};
 ghost use Rattle.ranges.specs.Inner.{rowAt, rowsOf, Ruled, Wrote};
 
@@ -217,20 +217,27 @@ pub fn contains_clock(t: &[u32], n: usize, clock: tables::Clock) -> tables::Told
     tables::Told::No
 }
 
-// How many rows end below `x`.
+// `half` where `m` is below `x`, else 0: reckoned, for a branch here would be mispredicted every other time.
+fn advance(m: u32, x: u64, half: usize) -> usize
+    requires { ⌜ x ≤ 4294967296 ⌝ }
+    ensures { λ r. ⌜ Advanced m x half r ⌝ }
+{
+    let below = (9223372036854775807 + x - m as u64) / 9223372036854775808;
+    half * below as usize
+}
+
+// How many rows end below `x`. Each look halves the rows still possible.
 fn ends_below(t: &[u32], n: usize, x: u64) -> usize
-    requires { ⌜ 2 * n ≤ length (now t) ⌝ }
+    requires { ⌜ Ruled (now t) n ⌝ }
+    requires { ⌜ x ≤ 4294967296 ⌝ }
     ensures { λ r. ⌜ Parted (ends (rowAt (now (t .entry)))) n x r r ⌝ }
 {
     let mut lo: usize = 0;
-    let mut hi: usize = n;
-    while lo < hi {
-        let mid = lo + (hi - lo) / 2;
-        if (end_at(t, mid) as u64) < x {
-            lo = mid + 1;
-        } else {
-            hi = mid;
-        }
+    let mut len: usize = n;
+    while 0 < len {
+        let half = len - len / 2;
+        lo = lo + advance(end_at(t, lo + (half - 1)), x, half);
+        len = len - half;
     }
     lo
 }
@@ -252,22 +259,32 @@ pub fn find_start(t: &[u32], n: usize, clock: tables::Clock) -> Place
 
 // ## Insert and remove: the rows that the range meets are found by halving, the others are copied.
 
-// How many rows start below `x`, where the first `i` do.
+// How many rows start below `x`, where the first `i` do. Most ranges meet no row or one: these looks come first.
 fn starts_below(t: &[u32], n: usize, i: usize, x: u64) -> usize
-    requires { ⌜ 2 * n ≤ length (now t) ⌝ }
+    requires { ⌜ Ruled (now t) n ⌝ }
+    requires { ⌜ x ≤ 4294967296 ⌝ }
     requires { ⌜ Parted (starts (rowAt (now t))) n x i n ⌝ }
     ensures { λ r. ⌜ Parted (starts (rowAt (now (t .entry)))) n x r r ⌝ }
     ensures { λ r. ⌜ i ≤ r ⌝ }
 {
+    if n <= i {
+        return i;
+    }
+    if x <= start_at(t, i) as u64 {
+        return i;
+    }
+    if n <= i + 1 {
+        return i + 1;
+    }
+    if x <= start_at(t, i + 1) as u64 {
+        return i + 1;
+    }
     let mut lo: usize = i;
-    let mut hi: usize = n;
-    while lo < hi {
-        let mid = lo + (hi - lo) / 2;
-        if (start_at(t, mid) as u64) < x {
-            lo = mid + 1;
-        } else {
-            hi = mid;
-        }
+    let mut len: usize = n - i;
+    while 0 < len {
+        let half = len - len / 2;
+        lo = lo + advance(start_at(t, lo + (half - 1)), x, half);
+        len = len - half;
     }
     lo
 }
@@ -722,7 +739,8 @@ fn shift(out: &mut [u32], i: usize, j: usize, k: usize)
 
 // How many rows end below `x`: at once where all do, or all but the last.
 fn tail_below(t: &[u32], n: usize, x: u64) -> usize
-    requires { ⌜ 2 * n ≤ length (now t) ⌝ }
+    requires { ⌜ Ruled (now t) n ⌝ }
+    requires { ⌜ x ≤ 4294967296 ⌝ }
     ensures { λ r. ⌜ Parted (ends (rowAt (now (t .entry)))) n x r r ⌝ }
 {
     if n < 2 {
