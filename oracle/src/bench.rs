@@ -69,6 +69,13 @@ fn our_op(op: usize, a: &[u32], b: &[u32], out: &mut [u32]) -> usize {
     r.count
 }
 
+type Bare = extern "C" fn(*const u8, usize, usize) -> Number;
+type Put = extern "C" fn(u64, *mut u8, usize, usize) -> Place;
+#[inline(never)]
+extern "C" fn one_byte(b: *const u8, _: usize, at: usize) -> Number { Number { no: 0, value: unsafe { *b.add(at) } as u64, next: at + 1 } }
+#[inline(never)]
+extern "C" fn put_byte(v: u64, b: *mut u8, _: usize, at: usize) -> Place { unsafe { *b.add(at) = v as u8 } Place { no: 0, next: at + 1 } }
+
 impl Bench {
     // ---- numbers
     pub fn numbers(&mut self) {
@@ -108,6 +115,16 @@ impl Bench {
                 Box::new(|| timed(|| for v in &ns { w2.clear(); for &x in bb(v) { w2.write_var(x) } bb(&w2); })),
                 Box::new(|| timed(|| for v in &ns { let o = bb(&mut o2[..]); let mut at = 0; for &x in bb(v) { let r = iz_write_u32(x, o, at); assert!(r.no == 0); at = r.next } bb(at); })),
             ]);
+            if m == 2 {
+                // the least that a call through the boundary can cost: one byte, and the answer; no test, no loop
+                let (f, g): (Bare, Put) = (bb(one_byte), bb(put_byte));
+                let p = self.race(per, &mut [
+                    Box::new(|| timed(|| for b in &bs { let b = bb(&b[..]); let (mut at, mut s) = (0, 0); for _ in 0..N { let r = f(b.as_ptr(), b.len(), at); s ^= r.value; at = r.next } bb(s); })),
+                    Box::new(|| timed(|| for v in &vs { let o = bb(&mut to[..]); let mut at = 0; for &x in bb(v) { at = g(x, o.as_mut_ptr(), o.len(), at).next } bb(at); })),
+                ]);
+                self.parts.push(("read of one byte: a call that only loads it and answers".into(), p[0]));
+                self.parts.push(("write of one byte: a call that only stores it and answers".into(), p[1]));
+            }
             let peers = crate::bench::peers::numbers(self, &bs, &vs, N);
             for (i, t) in [(0, "u64"), (1, "u32")] {
                 self.line(Line { group: "Numbers", name: format!("read {t}, {what}"), goal: Some([0.65, 0.80, 0.50][m]), limit: None, yrs: read[2 * i], alone: None, ours: read[2 * i + 1], copy: read[4], peers: peers.0[i].clone() });
