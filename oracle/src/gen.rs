@@ -274,7 +274,7 @@ pub fn all_malformed(s: &Share, see: &mut dyn FnMut(&Case)) {
 fn number(r: &mut Rng) -> u64 { let b = r.below(65); if b == 0 { 0 } else { let x = r.next() >> (64 - b); match r.below(8) { 0 => x | 1 << (b - 1), 1 => 1 << (b - 1), 2 => u64::MAX >> (64 - b), _ => x } } }
 
 /// A number written by document 01's rules, then perhaps damaged, at some place among other bytes.
-fn random_read(r: &mut Rng, ops: &[Op], see: &mut dyn FnMut(&Case)) {
+pub fn random_read(r: &mut Rng, ops: &[Op], see: &mut dyn FnMut(&Case)) {
     let mut c = Case::of(ops[0]);
     let lead = r.below(4) as usize;
     for _ in 0..lead { c.bytes.push(r.next() as u8) }
@@ -301,7 +301,7 @@ fn random_read(r: &mut Rng, ops: &[Op], see: &mut dyn FnMut(&Case)) {
     c.at = match r.below(40) { 0 => c.bytes.len(), 1 => c.bytes.len() + 1, 2 => usize::MAX, 3 => 0, _ => lead };
     for &op in ops { c.op = op; see(&c) }
 }
-fn random_write(r: &mut Rng, ops: &[Op], see: &mut dyn FnMut(&Case)) {
+pub fn random_write(r: &mut Rng, ops: &[Op], see: &mut dyn FnMut(&Case)) {
     let x = number(r) as i128;
     let x = if r.below(2) == 0 { -x } else { x };
     for &op in ops {

@@ -120,13 +120,34 @@ mod linked {
         }
     }
 
+    fn vectors(c: &Case) -> Answer {
+        let (a, b) = (&c.a, &c.b);
+        let (x, y, n) = (&a.longs[..], &a.ints[..], a.n);
+        let clock = c.start as u32;
+        match c.op {
+            VecGet => { let r = iz_vector_get(x, y, n, c.client); Answer { no: r.no, value: r.value as u64, ..Answer::default() } }
+            VecSetMin => table(c, |o| iz_vector_set_min(x, y, n, c.client, clock, &mut o.longs, &mut o.ints)),
+            VecSetMax => table(c, |o| iz_vector_set_max(x, y, n, c.client, clock, &mut o.longs, &mut o.ints)),
+            VecMerge => table(c, |o| iz_vector_merge(x, y, n, &b.longs, &b.ints, b.n, &mut o.longs, &mut o.ints)),
+            VecCompare => { let r = iz_vector_partial_cmp(x, y, n, &b.longs, &b.ints, b.n); Answer { no: r.no, value: r.value as u64, ..Answer::default() } }
+            VecEncode => { let mut bytes = c.bytes.clone(); let r = iz_vector_encode(x, y, n, &mut bytes, c.at); Answer { no: r.no, next: r.next, bytes, ..Answer::default() } }
+            VecDecode => {
+                let mut out = c.out.clone();
+                let r = iz_vector_decode(&c.bytes, c.at, &mut out.longs, &mut out.ints);
+                out.n = r.count;
+                Answer { no: r.no, next: r.next, out, ..Answer::default() }
+            }
+            _ => unreachable!(),
+        }
+    }
+
     pub fn answer(c: &Case) -> Option<Answer> {
         match c.op {
             Read(_) | ReadSigned(_) => number(c).map(|n| n.into()),
             Write(_) | WriteSigned(_) => Some(write(c)),
             o if o.kind() == Kind::Range => Some(ranges(c)),
             o if o.kind() == Kind::Id => Some(ids(c)),
-            _ => None,
+            _ => Some(vectors(c)),
         }
     }
 }

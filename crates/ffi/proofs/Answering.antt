@@ -1,7 +1,8 @@
 -- The struct of each answer of the table routines, case by case. Assumes nothing.
 use Prim.Native.Nat.{ℕ}
-use mathlib.Core.Path.{_≡_}
+use mathlib.Core.Path.{_≡_, sym, subst}
 use mathlib.Core.Bool.{true, false}
+use mathlib.Core.List.{List}
 use borrow.Author.Needs.{needs}
 use Rattle.varint.specs.Answer.{noOf}
 use Rattle.varint.specs.declared.Refusal.{Refusal}
@@ -18,7 +19,19 @@ use Rattle.ranges.specs.declared.Edge.{Edge}
 use Rattle.ranges.specs.declared.Edge.the-variants as edge
 use Rattle.ranges.specs.declared.Found.{Found}
 use Rattle.ranges.specs.declared.Found.the-variants as found
-use Rattle.ffi.specs.Boundary.{asRows, asYesNo, asCount, asIndex, asBound, asRow}
+use Rattle.varint.specs.Answer.{wrote}
+use Rattle.varint.specs.declared.Wrote.{Wrote}
+use Rattle.state_vector.specs.Vectors.{Held}
+use Rattle.state_vector.specs.Bytes.{Encodes}
+use Rattle.state_vector.specs.declared.Got.{Got}
+use Rattle.state_vector.specs.declared.Got.the-variants as got
+use Rattle.state_vector.specs.declared.Order.{Order}
+use Rattle.state_vector.specs.declared.Order.the-variants as order
+use Rattle.state_vector.specs.declared.Decoded.{Decoded}
+use Rattle.state_vector.specs.declared.Decoded.the-variants as decoded
+use Rattle.ffi.specs.declared.Place as boundary
+use Rattle.ffi.specs.Inner.{Placed}
+use Rattle.ffi.specs.Boundary.{asRows, asYesNo, asCount, asIndex, asBound, asRow, asValue, asVerdict, asVector, placed}
 
 pub rows-done : {r : Made} {n : ℕ} → r ≡ made.Rows n → asRows r ≡ record { no = 0; count = n }
 rows-done e = rw e
@@ -68,4 +81,37 @@ row-nothing e = rw e
 pub row-refused : {r : Found} {e : Refusal} {k : ℕ} → r ≡ found.Refused e → k ≡ noOf e → asRow r ≡ record { no = k; some = false; start = 0; end = 0 }
 row-refused e q = rw (q, e)
 
-pub ruleset answering = (rows-done, rows-refused, told-yes, told-no, told-refused, count-done, count-refused, index-at, index-nothing, index-refused, bound-at, bound-nothing, bound-refused, row-at, row-nothing, row-refused, needs)
+pub value-done : {r : Got} {c : Clock} → r ≡ got.Is c → asValue r ≡ record { no = 0; value = c .0 }
+value-done e = rw e
+
+pub value-refused : {r : Got} {e : Refusal} {k : ℕ} → r ≡ got.Refused e → k ≡ noOf e → asValue r ≡ record { no = k; value = 0 }
+value-refused e q = rw (q, e)
+
+pub verdict-less : {r : Order} → r ≡ order.Less → asVerdict r ≡ record { no = 0; value = 1 }
+verdict-less e = rw e
+
+pub verdict-equal : {r : Order} → r ≡ order.Equal → asVerdict r ≡ record { no = 0; value = 2 }
+verdict-equal e = rw e
+
+pub verdict-greater : {r : Order} → r ≡ order.Greater → asVerdict r ≡ record { no = 0; value = 3 }
+verdict-greater e = rw e
+
+pub verdict-nothing : {r : Order} → r ≡ order.Nothing → asVerdict r ≡ record { no = 0; value = 0 }
+verdict-nothing e = rw e
+
+pub verdict-refused : {r : Order} {e : Refusal} {k : ℕ} → r ≡ order.Refused e → k ≡ noOf e → asVerdict r ≡ record { no = k; value = 0 }
+verdict-refused e q = rw (q, e)
+
+pub vector-done : (at : ℕ) {r : Decoded} {n p : ℕ} → r ≡ decoded.Done n p → asVector at r ≡ record { no = 0; count = n; next = p }
+vector-done at e = rw e
+
+pub vector-refused : (at : ℕ) {r : Decoded} {e : Refusal} {k : ℕ} → r ≡ decoded.Refused e → k ≡ noOf e → asVector at r ≡ record { no = k; count = 0; next = at }
+vector-refused at e q = rw (q, e)
+
+-- a vector written
+pub encodes : {a : Held} {buf after : List ℕ} {at : ℕ} {w : Wrote} {r : boundary.Place} → Placed at w r → Encodes a buf at (wrote at w after) → Encodes a buf at (placed r after)
+encodes {a} {buf} {after} {at} p e = subst (Encodes a buf at) (sym (p .says after)) e
+
+pub ruleset answering = (rows-done, rows-refused, told-yes, told-no, told-refused, count-done, count-refused, index-at, index-nothing, index-refused, bound-at, bound-nothing, bound-refused, row-at, row-nothing, row-refused, value-done, value-refused, verdict-less, verdict-equal, verdict-greater, verdict-nothing, verdict-refused, vector-done, vector-refused, needs)
+
+pub ruleset encoding = (encodes, needs)

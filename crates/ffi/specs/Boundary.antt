@@ -18,6 +18,12 @@ use Rattle.ranges.specs.Tables.{saidPlace, saidEdge, saidFound}
 use Rattle.ranges.specs.declared.Place as found
 use Rattle.ranges.specs.declared.Edge.{Edge}
 use Rattle.ranges.specs.declared.Found.{Found}
+use Rattle.state_vector.specs.Rows as vector
+use Rattle.state_vector.specs.Vectors.{saidGot, saidOrder}
+use Rattle.state_vector.specs.Bytes.{saidDecoded}
+use Rattle.state_vector.specs.declared.Got.{Got}
+use Rattle.state_vector.specs.declared.Order.{Order}
+use Rattle.state_vector.specs.declared.Decoded.{Decoded}
 use Rattle.ffi.specs.declared.Place.{Place}
 use Rattle.ffi.specs.declared.Rows.{Rows}
 use Rattle.ffi.specs.declared.YesNo.{YesNo}
@@ -25,6 +31,9 @@ use Rattle.ffi.specs.declared.Count.{Count}
 use Rattle.ffi.specs.declared.Index.{Index}
 use Rattle.ffi.specs.declared.Bound.{Bound}
 use Rattle.ffi.specs.declared.Row.{Row}
+use Rattle.ffi.specs.declared.Value.{Value}
+use Rattle.ffi.specs.declared.Verdict.{Verdict}
+use Rattle.ffi.specs.declared.Vector.{Vector}
 
 -- a number read
 abbrev pub number : Number → Answer
@@ -73,3 +82,20 @@ foundRow n none = record { no = n; some = false; start = 0; end = 0 }
 
 abbrev pub asRow : Found → Row
 asRow a = foundRow (saidFound a .no) (saidFound a .value)
+
+abbrev pub asValue : Got → Value
+asValue a = record { no = saidGot a .no; value = saidGot a .value }
+
+-- a verdict: "Less, Equal, Greater or none"
+abbrev pub verdict : vector.Verdict → ℕ
+verdict vector.less = 1
+verdict vector.equal = 2
+verdict vector.greater = 3
+verdict vector.none = 0
+
+abbrev pub asVerdict : Order → Verdict
+asVerdict a = record { no = saidOrder a .no; value = verdict (saidOrder a .value) }
+
+-- a vector read at a place
+abbrev pub asVector : ℕ → Decoded → Vector
+asVector at a = record { no = saidDecoded at a .no; count = saidDecoded at a .count; next = saidDecoded at a .place }

@@ -2,6 +2,9 @@
 // Each promise is the routine's own, of the struct that is handed out.
 use ranges::Edge;
 use ranges::Found;
+use state_vector::Decoded;
+use state_vector::Got;
+use state_vector::Order;
 use tables::Client;
 use tables::Clock;
 use tables::Counted;
@@ -37,7 +40,10 @@ ghost use Rattle.ranges.specs.Tables as of-ranges;
 ghost use Rattle.ids.specs.Rows.{row};
 ghost use Rattle.ids.specs.Tables as of-ids;
 ghost use Rattle.ids.specs.Tables.{held, three};
-ghost use Rattle.ffi.specs.Boundary.{number, integer, placed, Crosses, asRows, asYesNo, asCount, asIndex, asBound, asRow};
+ghost use Rattle.state_vector.specs.Vectors as of-vectors;
+ghost use Rattle.state_vector.specs.Vectors.{two};
+ghost use Rattle.state_vector.specs.Bytes.{Encodes, Decodes, saidDecoded};
+ghost use Rattle.ffi.specs.Boundary.{number, integer, placed, Crosses, asRows, asYesNo, asCount, asIndex, asBound, asRow, asValue, asVerdict, asVector};
 ghost use Rattle.ffi.specs.Inner.{Placed};
 
 // A number read: document 01's number of the answer, 0 for done; the value; the place past it, or as given.
@@ -108,6 +114,28 @@ pub struct Row {
     pub some: bool,
     pub start: u32,
     pub end: u32,
+}
+
+// A clock: 0 if refused.
+#[repr(C)]
+pub struct Value {
+    pub no: u32,
+    pub value: u32,
+}
+
+// How two vectors compare: 1 less, 2 equal, 3 greater, 0 none of these or refused.
+#[repr(C)]
+pub struct Verdict {
+    pub no: u32,
+    pub value: u8,
+}
+
+// A vector read: how many rows, and the place past it; 0 and the place as given if refused.
+#[repr(C)]
+pub struct Vector {
+    pub no: u32,
+    pub count: usize,
+    pub next: usize,
 }
 
 // Document 01's number of a refusal.
@@ -747,7 +775,49 @@ fn row_of(got: Found) -> Row
     }
 }
 
-// ## Range tables
+fn value_of(got: Got) -> Value
+    ensures { λ r. ⌜ asValue got ≡ r ⌝ }
+{
+    match got {
+        Got::Is(c) => Value { no: 0, value: c.0 },
+        Got::Refused(e) => Value {
+            no: no_of(e),
+            value: 0,
+        },
+    }
+}
+
+fn verdict_of(got: Order) -> Verdict
+    ensures { λ r. ⌜ asVerdict got ≡ r ⌝ }
+{
+    match got {
+        Order::Less => Verdict { no: 0, value: 1 },
+        Order::Equal => Verdict { no: 0, value: 2 },
+        Order::Greater => Verdict { no: 0, value: 3 },
+        Order::Nothing => Verdict { no: 0, value: 0 },
+        Order::Refused(e) => Verdict {
+            no: no_of(e),
+            value: 0,
+        },
+    }
+}
+
+fn vector_of(got: Decoded, at: usize) -> Vector
+    ensures { λ r. ⌜ asVector at got ≡ r ⌝ }
+{
+    match got {
+        Decoded::Done(n, next) => Vector {
+            no: 0,
+            count: n,
+            next: next,
+        },
+        Decoded::Refused(e) => Vector {
+            no: no_of(e),
+            count: 0,
+            next: at,
+        },
+    }
+}
 
 // ## Range tables
 
@@ -1049,4 +1119,134 @@ pub extern "C" fn iz_ids_len(clients: &[u64], starts: &[u32], ends: &[u32], coun
     ensures { λ r. ⌜ Crosses (of-ids.Len (held (now (clients .entry)) (now (starts .entry)) (now (ends .entry)) count)) asCount r ⌝ }
 {
     count_of(ids::len(clients, starts, ends, count))
+}
+
+// ## State vectors
+
+#[no_mangle]
+pub extern "C" fn iz_vector_get(clients: &[u64], clocks: &[u32], count: usize, client: u64) -> Value
+    ensures { λ r. ⌜ Crosses (of-vectors.Gets (of-vectors.held (now (clients .entry)) (now (clocks .entry)) count) client) asValue r ⌝ }
+{
+    value_of(state_vector::get(clients, clocks, count, Client(client)))
+}
+
+#[no_mangle]
+pub extern "C" fn iz_vector_set_min(
+    clients: &[u64],
+    clocks: &[u32],
+    count: usize,
+    client: u64,
+    clock: u32,
+    to_clients: &mut [u64],
+    to_clocks: &mut [u32],
+) -> Rows
+    ensures { λ r. ⌜ Crosses (of-vectors.MinSet (of-vectors.held (now (clients .entry)) (now (clocks .entry)) count) client clock
+        (two (now («to_clients» .entry)) (now («to_clocks» .entry)))
+        (two (now («to_clients» .exit)) (now («to_clocks» .exit)))) asRows r ⌝ }
+{
+    rows_of(state_vector::set_min(
+        clients,
+        clocks,
+        count,
+        Client(client),
+        Clock(clock),
+        to_clients,
+        to_clocks,
+    ))
+}
+
+#[no_mangle]
+pub extern "C" fn iz_vector_set_max(
+    clients: &[u64],
+    clocks: &[u32],
+    count: usize,
+    client: u64,
+    clock: u32,
+    to_clients: &mut [u64],
+    to_clocks: &mut [u32],
+) -> Rows
+    ensures { λ r. ⌜ Crosses (of-vectors.MaxSet (of-vectors.held (now (clients .entry)) (now (clocks .entry)) count) client clock
+        (two (now («to_clients» .entry)) (now («to_clocks» .entry)))
+        (two (now («to_clients» .exit)) (now («to_clocks» .exit)))) asRows r ⌝ }
+{
+    rows_of(state_vector::set_max(
+        clients,
+        clocks,
+        count,
+        Client(client),
+        Clock(clock),
+        to_clients,
+        to_clocks,
+    ))
+}
+
+#[no_mangle]
+pub extern "C" fn iz_vector_merge(
+    clients: &[u64],
+    clocks: &[u32],
+    count: usize,
+    b_clients: &[u64],
+    b_clocks: &[u32],
+    b_count: usize,
+    to_clients: &mut [u64],
+    to_clocks: &mut [u32],
+) -> Rows
+    ensures { λ r. ⌜ Crosses (of-vectors.Merged (of-vectors.held (now (clients .entry)) (now (clocks .entry)) count)
+        (of-vectors.held (now («b_clients» .entry)) (now («b_clocks» .entry)) «b_count»)
+        (two (now («to_clients» .entry)) (now («to_clocks» .entry)))
+        (two (now («to_clients» .exit)) (now («to_clocks» .exit)))) asRows r ⌝ }
+{
+    rows_of(state_vector::merge(
+        clients,
+        clocks,
+        count,
+        b_clients,
+        b_clocks,
+        b_count,
+        to_clients,
+        to_clocks,
+    ))
+}
+
+#[no_mangle]
+pub extern "C" fn iz_vector_partial_cmp(
+    clients: &[u64],
+    clocks: &[u32],
+    count: usize,
+    b_clients: &[u64],
+    b_clocks: &[u32],
+    b_count: usize,
+) -> Verdict
+    ensures { λ r. ⌜ Crosses (of-vectors.Compared (of-vectors.held (now (clients .entry)) (now (clocks .entry)) count)
+        (of-vectors.held (now («b_clients» .entry)) (now («b_clocks» .entry)) «b_count»)) asVerdict r ⌝ }
+{
+    verdict_of(state_vector::partial_cmp(clients, clocks, count, b_clients, b_clocks, b_count))
+}
+
+#[no_mangle]
+pub extern "C" fn iz_vector_encode(
+    clients: &[u64],
+    clocks: &[u32],
+    count: usize,
+    buf: &mut [u8],
+    at: usize,
+) -> Place
+    ensures { λ r. ⌜ Encodes (of-vectors.held (now (clients .entry)) (now (clocks .entry)) count) (now (buf .entry)) at (placed r (now (buf .exit))) ⌝ }
+{
+    let got = state_vector::encode(clients, clocks, count, buf, at);
+    place_of(got, at)
+}
+
+#[no_mangle]
+pub extern "C" fn iz_vector_decode(
+    bytes: &[u8],
+    at: usize,
+    to_clients: &mut [u64],
+    to_clocks: &mut [u32],
+) -> Vector
+    ensures { λ r. ⌜ Crosses (λ d. Decodes (now (bytes .entry)) at (two (now («to_clients» .entry)) (now («to_clocks» .entry)))
+        (two (now («to_clients» .exit)) (now («to_clocks» .exit))) (saidDecoded at d)) (asVector at) r ⌝ }
+{
+    let got = state_vector::decode(bytes, at, to_clients, to_clocks);
+    vector_of(got, at)
 }

@@ -9,6 +9,7 @@
 //     i OUT TABLE TABLE       intersect       the same
 //     n OUT START END TABLE   insert          the same
 //     r OUT START END TABLE   remove          the same
+//     f OUT TABLE             from_ranges     the same; the table is the ranges, COUNT of them
 //     c CLOCK TABLE           contains_clock  NO 0 or NO 1
 //     s CLOCK TABLE           find_start      NO INDEX or NO none
 //     b TABLE                 clock_start     NO CLOCK or NO none
@@ -274,6 +275,9 @@ fn edit(op: u8, t: &[u32], n: usize, s: u32, e: u32, out: &mut [u32]) -> tables:
     if op == b'n' {
         return ranges::insert(t, n, tables::Clock(s), tables::Clock(e), out);
     }
+    if op == b'f' {
+        return ranges::from_ranges(t, n, out);
+    }
     ranges::remove(t, n, tables::Clock(s), tables::Clock(e), out)
 }
 
@@ -295,17 +299,17 @@ fn edit_in(op: u8, args: &[u64], a: &[u32], x: usize, n: usize, out: &mut [u32],
     made_in(made, out, room);
 }
 
-fn one_in(op: u8, args: &[u64], a: &mut [u32], out: &mut [u32]) {
-    let p = table(args, 3, a);
+fn one_in(op: u8, args: &[u64], first: usize, a: &mut [u32], out: &mut [u32]) {
+    let p = table(args, first, a);
     let room = within(number(args, 0), out.len());
     edit_in(op, args, a, p.len, p.count, out, room);
 }
 
-// The case of an insert or a remove.
-fn one(op: u8, args: &[u64]) {
+// The case of an insert, a remove or ranges.
+fn one(op: u8, args: &[u64], first: usize) {
     let mut a = [0u32; 4096];
     let mut out = [4294967295u32; 4096];
-    one_in(op, args, &mut a, &mut out);
+    one_in(op, args, first, &mut a, &mut out);
 }
 
 fn told(r: tables::Told) {
@@ -384,7 +388,8 @@ fn ask(op: u8, args: &[u64], first: usize) {
 fn answer(op: u8, args: &[u64]) {
     match op {
         b'm' | b'x' | b'i' => both(op, args),
-        b'n' | b'r' => one(op, args),
+        b'n' | b'r' => one(op, args, 3),
+        b'f' => one(op, args, 1),
         b'c' | b's' | b'g' => ask(op, args, 1),
         b'b' | b'e' | b'l' | b'z' => ask(op, args, 0),
         _ => {}

@@ -1,0 +1,238 @@
+-- A vector by its clients' clocks: there is one, and what `put`, a row behind and two vectors side by side read. Assumes nothing.
+use mathlib.Core.Path.{_≡_, refl, ap, ap₂, sym, subst, _∙_}
+use mathlib.Core.Logic.{_⊎_, inl, inr, ⊎-elim, _↔_}
+use mathlib.Core.List.{List, [], _∷_, _++_}
+use mathlib.Core.Bool.{Bool, true, false, cond}
+use Prim.Native.Nat.{ℕ, zero, suc, _+_, _-_, _≤_, _<_, max}
+use native.Mathlib.Omega.{arith}
+use borrow.Author.Tests.{ltb-true, ltb-false, eqb-true, eqb-false, eq-eqb, ne-eqb, lt-ltb, le-ltb}
+use lib.Dec.{eqb, ltb}
+use lib.ListN.{length}
+use Rattle.state_vector.specs.Rows.{Row, row, In, at, First, Rising, VectorOf, Set, Merge}
+use Rattle.state_vector.specs.Inner.{put}
+
+pub same-or-not : (a b : ℕ) → (a ≡ b) ⊎ (a ≡ b → ⊥)
+same-or-not a b = go (eqb a b) refl
+  where
+    go : (t : Bool) → eqb a b ≡ t → (a ≡ b) ⊎ (a ≡ b → ⊥)
+    go true e = inl (eqb-true a b e)
+    go false e = inr (eqb-false a b e)
+
+-- a client's clock and one more; 0 where it is absent
+unfoldable pub look : List Row → ℕ → ℕ
+look [] c = 0
+look (r ∷ rs) c = cond (eqb c (r .client)) (suc (r .clock)) (look rs c)
+
+module _ (r : Row) (rs : List Row) (c : ℕ) where
+  pub look-here : c ≡ r .client → look (r ∷ rs) c ≡ suc (r .clock)
+  unfolding look
+  look-here e = rw (eq-eqb _ _ e)
+
+  pub look-past : (c ≡ r .client → ⊥) → look (r ∷ rs) c ≡ look rs c
+  unfolding look
+  look-past n = rw (ne-eqb _ _ n)
+
+at-pick : (b : Bool) (k u v : ℕ) → u ≡ v - 1 → cond b k u ≡ cond b (suc k) v - 1
+at-pick true k u v e = omega arith
+at-pick false k u v e = e
+
+pub at-look : (t : List Row) (c : ℕ) → at t c ≡ look t c - 1
+unfolding look
+at-look [] c = refl
+at-look (r ∷ t) c = at-pick (eqb c (r .client)) (r .clock) (at t c) (look t c) (at-look t c)
+
+pub in-look : (t : List Row) (c : ℕ) → In t c → 0 < look t c
+in-look [] c i = absurd i
+in-look (r ∷ t) c (inl e) = omega (arith, look-here r t c e)
+in-look (r ∷ t) c (inr i) = ⊎-elim (λ e. omega (arith, look-here r t c e)) (λ n. omega (arith, look-past r t c n, in-look t c i)) (same-or-not c (r .client))
+
+pub look-in : (t : List Row) (c : ℕ) → 0 < look t c → In t c
+unfolding look
+look-in [] c h = absurd (let z : ⊥ = omega arith in z)
+look-in (r ∷ t) c h = ⊎-elim (λ e. inl e) (λ n. inr (look-in t c (subst (λ (v : ℕ). 0 < v) (look-past r t c n) h))) (same-or-not c (r .client))
+
+pub not-in : (t : List Row) (c : ℕ) → (In t c → ⊥) → look t c ≡ 0
+not-in t c n = let f : (0 < look t c → ⊥) = λ h. n (look-in t c h) in none (look t c) f
+  where
+    none : (v : ℕ) → (0 < v → ⊥) → v ≡ 0
+    none zero f = refl
+    none (suc v) f = absurd (f (omega arith))
+
+-- clients before the first are absent
+pub over : (r : Row) (t : List Row) (c : ℕ) → c ≤ r .client → First r t → Rising t → look t c ≡ 0
+unfolding look
+over r [] c h f g = refl
+over r (s ∷ t) c h f g = look-past s t c (λ e. omega arith) ∙ over s t c (omega arith) (g .0) (g .1)
+
+-- ## There is one
+
+unique-step : (r s : Row) (t u : List Row) → Rising (r ∷ t) → Rising (s ∷ u) → ((c : ℕ) → look (r ∷ t) c ≡ look (s ∷ u) c) → s .client ≤ r .client
+unique-step r s t u g h f = ⊎-elim (λ e. omega arith) (λ n. ⊎-elim (λ l. l) (λ (l : r .client < s .client).
+    absurd (let z : ⊥ = omega (arith, look-here r t (r .client) refl, f (r .client), look-past s u (r .client) n, over s u (r .client) (omega arith) (h .0) (h .1)) in z))
+    (le-or-gt (s .client) (r .client))) (same-or-not (r .client) (s .client))
+  where
+    le-or-gt : (a b : ℕ) → (a ≤ b) ⊎ (b < a)
+    le-or-gt a b = go (ltb b a) refl
+      where
+        go : (t : Bool) → ltb b a ≡ t → (a ≤ b) ⊎ (b < a)
+        go true e = inr (omega (arith, ltb-true b a e))
+        go false e = inl (omega (arith, ltb-false b a e))
+
+pub unique : (t u : List Row) → Rising t → Rising u → ((c : ℕ) → look t c ≡ look u c) → t ≡ u
+unfolding look
+unique [] [] g h f = refl
+unique [] (s ∷ u) g h f = absurd (let z : ⊥ = omega (arith, f (s .client), look-here s u (s .client) refl) in z)
+unique (r ∷ t) [] g h f = absurd (let z : ⊥ = omega (arith, f (r .client), look-here r t (r .client) refl) in z)
+unique (r ∷ t) (s ∷ u) g h f =
+    let a = unique-step r s t u g h f in
+    let b = unique-step s r u t h g (λ c. sym (f c)) in
+    let e : r .client ≡ s .client = omega arith in
+    let k : r .clock ≡ s .clock = omega (arith, look-here r t (r .client) refl, f (r .client), look-here s u (r .client) e) in
+    ap₂ _∷_ (λ i. record { client = e i; clock = k i })
+    (unique t u (g .1) (h .1) (λ c. ⊎-elim (λ (q : c ≡ r .client). over r t c (omega arith) (g .0) (g .1) ∙ sym (over s u c (omega arith) (h .0) (h .1)))
+    (λ n. sym (look-past r t c n) ∙ f c ∙ look-past s u c (λ q. n (q ∙ sym e))) (same-or-not c (r .client))))
+
+-- ANY TWO VECTORS OF THE SAME CLIENTS WITH THE SAME CLOCKS COINCIDE
+pub vector-one : {ks : ℕ → Type 0} {f : ℕ → ℕ} (t u : List Row) → VectorOf ks f t → VectorOf ks f u → t ≡ u
+vector-one {ks} {f} t u v w = unique t u (v .rising) (w .rising) (λ c. go c)
+  where
+    yes : (c : ℕ) → ks c → look t c ≡ look u c
+    yes c k = omega (arith, in-look t c (v .keys c .1 k), in-look u c (w .keys c .1 k), at-look t c, at-look u c, v .clocks c k, w .clocks c k)
+
+    go : (c : ℕ) → look t c ≡ look u c
+    go c = ⊎-elim (λ (e : look t c ≡ 0). ⊎-elim (λ (d : look u c ≡ 0). e ∙ sym d) (λ n. yes c (w .keys c .0 (look-in u c (omega arith)))) (same-or-not (look u c) 0))
+        (λ n. yes c (v .keys c .0 (look-in t c (omega arith)))) (same-or-not (look t c) 0)
+
+-- ## Two parts of one vector
+
+pub look-append : (t xs : List Row) (c : ℕ) → Rising (t ++ xs) → look (t ++ xs) c ≡ max (look t c) (look xs c)
+unfolding look
+look-append [] xs c g = omega arith
+look-append (r ∷ t) xs c g =
+    ⊎-elim (λ (e : c ≡ r .client). omega (arith, look-here r (t ++ xs) c e, look-here r t c e, look-append t xs c (g .1), over r (t ++ xs) c (omega arith) (g .0) (g .1)))
+    (λ n. omega (arith, look-past r (t ++ xs) c n, look-past r t c n, look-append t xs c (g .1))) (same-or-not c (r .client))
+
+-- a row of the same client takes the place of s, and other rows that of those behind
+pub between : (t : List Row) (s r : Row) (ys xs : List Row) → Rising (t ++ (s ∷ ys)) → s .client ≡ r .client → First r xs → Rising xs → Rising (t ++ (r ∷ xs))
+between [] s r ys xs g e f h = (f, h)
+between (q ∷ []) s r ys xs g e f h = (subst (λ (c : ℕ). q .client < c) e (g .0), (f, h))
+between (q ∷ p ∷ t) s r ys xs g e f h = (g .0, between (p ∷ t) s r ys xs (g .1) e f h)
+
+-- ## A row in its place
+
+-- the three ways
+data Way (a b : ℕ) : Type 0 where
+  before : a < b → Way a b
+  here : a ≡ b → Way a b
+  behind : b < a → Way a b
+
+way : (a b : ℕ) → Way a b
+way a b = go (ltb a b) (eqb a b) refl refl
+  where
+    go : (t u : Bool) → ltb a b ≡ t → eqb a b ≡ u → Way a b
+    go true u e f = before (ltb-true a b e)
+    go false true e f = here (eqb-true a b f)
+    go false false e f = behind (let n : (a ≡ b → ⊥) = eqb-false a b f in let l = ltb-false a b e in omega arith)
+
+module _ (r s : Row) (t : List Row) where
+  pub put-before : r .client < s .client → put r (s ∷ t) ≡ r ∷ s ∷ t
+  unfolding put
+  put-before h = rw (lt-ltb _ _ h)
+
+  pub put-here : r .client ≡ s .client → put r (s ∷ t) ≡ r ∷ t
+  unfolding put
+  put-here h = rw (le-ltb (r .client) (s .client) (omega arith), eq-eqb _ _ h)
+
+  pub put-behind : s .client < r .client → put r (s ∷ t) ≡ s ∷ put r t
+  unfolding put
+  put-behind h = rw (le-ltb (r .client) (s .client) (omega arith), ne-eqb (r .client) (s .client) (λ e. omega arith))
+
+  -- what holds of each way holds
+  pub put-ways : (P : List Row → Type 0) → (r .client < s .client → P (r ∷ s ∷ t)) → (r .client ≡ s .client → P (r ∷ t)) → (s .client < r .client → P (s ∷ put r t))
+      → P (put r (s ∷ t))
+  put-ways P a b c = go (way (r .client) (s .client))
+    where
+      go : Way (r .client) (s .client) → P (put r (s ∷ t))
+      go (before h) = subst P (sym (put-before h)) (a h)
+      go (here h) = subst P (sym (put-here h)) (b h)
+      go (behind h) = subst P (sym (put-behind h)) (c h)
+
+pub look-put-same : (r : Row) (t : List Row) → look (put r t) (r .client) ≡ suc (r .clock)
+unfolding put
+look-put-same r [] = look-here r [] (r .client) refl
+look-put-same r (s ∷ t) = put-ways r s t (λ l. look l (r .client) ≡ suc (r .clock)) (λ h. look-here r (s ∷ t) (r .client) refl) (λ h. look-here r t (r .client) refl)
+    (λ h. look-past s (put r t) (r .client) (λ e. omega arith) ∙ look-put-same r t)
+
+pub look-put-other : (r : Row) (t : List Row) (c : ℕ) → (c ≡ r .client → ⊥) → look (put r t) c ≡ look t c
+unfolding put
+look-put-other r [] c n = look-past r [] c n
+look-put-other r (s ∷ t) c n = put-ways r s t (λ l. look l c ≡ look (s ∷ t) c) (λ h. look-past r (s ∷ t) c n)
+    (λ h. look-past r t c n ∙ sym (look-past s t c (λ e. n (e ∙ sym h))))
+    (λ h. ⊎-elim (λ (e : c ≡ s .client). look-here s (put r t) c e ∙ sym (look-here s t c e))
+    (λ m. look-past s (put r t) c m ∙ look-put-other r t c n ∙ sym (look-past s t c m)) (same-or-not c (s .client)))
+
+first-put : (q r : Row) (t : List Row) → q .client < r .client → First q t → First q (put r t)
+unfolding put
+first-put q r [] h f = h
+first-put q r (s ∷ t) h f = put-ways r s t (λ l. First q l) (λ _. h) (λ _. h) (λ _. f)
+
+pub put-rising : (r : Row) (t : List Row) → Rising t → Rising (put r t)
+unfolding put
+put-rising r [] g = (tt, tt)
+put-rising r (s ∷ t) g = put-ways r s t Rising (λ h. (h, g)) (λ h. (first-same r s t h (g .0), g .1)) (λ h. (first-put s r t h (g .0), put-rising r t (g .1)))
+  where
+    first-same : (r s : Row) (t : List Row) → r .client ≡ s .client → First s t → First r t
+    first-same r s [] e f = tt
+    first-same r s (q ∷ t) e f = omega arith
+
+pub length-put-new : (r : Row) (t : List Row) → Rising t → look t (r .client) ≡ 0 → length (put r t) ≡ suc (length t)
+unfolding put
+length-put-new r [] g h = refl
+length-put-new r (s ∷ t) g h = put-ways r s t (λ l. length l ≡ suc (length (s ∷ t))) (λ b. refl)
+    (λ e. absurd (let z : ⊥ = omega (arith, look-here s t (r .client) e) in z))
+    (λ b. ap suc (length-put-new r t (g .1) (sym (look-past s t (r .client) (λ e. omega arith)) ∙ h)))
+
+pub length-put-old : (r : Row) (t : List Row) → Rising t → 0 < look t (r .client) → length (put r t) ≡ length t
+unfolding put look
+length-put-old r [] g h = absurd (let z : ⊥ = omega arith in z)
+length-put-old r (s ∷ t) g h = put-ways r s t (λ l. length l ≡ length (s ∷ t))
+    (λ b. absurd (let z : ⊥ = omega (arith, look-past s t (r .client) (λ e. omega arith), over s t (r .client) (omega arith) (g .0) (g .1)) in z))
+    (λ e. refl) (λ b. ap suc (length-put-old r t (g .1) (subst (λ (v : ℕ). 0 < v) (look-past s t (r .client) (λ e. omega arith)) h)))
+
+-- ## What is right
+
+pub set-right : (a : List Row) (c k : ℕ) → Rising a → Set a c k (put (row c k) a)
+set-right a c k g = record {
+  rising = put-rising (row c k) a g;
+  keys = λ d. (to d, from d);
+  clocks = clocks;
+}
+  where
+    t : List Row
+    t = put (row c k) a
+
+    to : (d : ℕ) → In t d → In a d ⊎ (d ≡ c)
+    to d i = ⊎-elim (λ (e : d ≡ c). inr e) (λ n. inl (look-in a d (omega (arith, in-look t d i, look-put-other (row c k) a d n)))) (same-or-not d c)
+
+    from : (d : ℕ) → In a d ⊎ (d ≡ c) → In t d
+    from d i = look-in t d (⊎-elim (λ (e : d ≡ c). subst (λ (x : ℕ). 0 < look t x) (sym e) (omega (arith, look-put-same (row c k) a)))
+        (λ (n : (d ≡ c → ⊥)). omega (arith, look-put-other (row c k) a d n, in-look a d (⊎-elim (λ (j : In a d). j) (λ e. absurd (n e)) i))) (same-or-not d c))
+
+    clocks : (d : ℕ) → In a d ⊎ (d ≡ c) → at t d ≡ cond (eqb d c) k (at a d)
+    clocks d i = ⊎-elim
+        (λ (e : d ≡ c). rw (eq-eqb d c e) (ap (at t) e ∙ omega (arith, at-look t c, look-put-same (row c k) a)))
+        (λ n. rw (ne-eqb d c n) (omega (arith, at-look t d, at-look a d, look-put-other (row c k) a d n))) (same-or-not d c)
+
+pub merge-right : (a b t : List Row) → Rising t → ((c : ℕ) → look t c ≡ max (look a c) (look b c)) → Merge a b t
+merge-right a b t g f = record {
+  rising = g;
+  keys = λ c. (to c, from c);
+  clocks = λ c _. omega (arith, at-look t c, at-look a c, at-look b c, f c);
+}
+  where
+    to : (c : ℕ) → In t c → In a c ⊎ In b c
+    to c i = ⊎-elim (λ (e : look a c ≡ 0). inr (look-in b c (omega (arith, f c, in-look t c i)))) (λ n. inl (look-in a c (omega arith))) (same-or-not (look a c) 0)
+
+    from : (c : ℕ) → In a c ⊎ In b c → In t c
+    from c (inl i) = look-in t c (omega (arith, f c, in-look a c i))
+    from c (inr i) = look-in t c (omega (arith, f c, in-look b c i))

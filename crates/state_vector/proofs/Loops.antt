@@ -1,0 +1,148 @@
+-- What the small loops know, and one law for each way out and each turn. Assumes nothing.
+use mathlib.Core.Path.{_≡_, refl, ap, sym, subst, subst₂, _∙_}
+use mathlib.Core.Logic.{⊎-elim}
+use mathlib.Core.Bool.{Bool, true, false, _&&_, _||_, true≢false, false≢true}
+use mathlib.Core.List.{List}
+use Prim.Native.Nat.{ℕ, zero, suc, _+_, _-_, _≤_, _<_}
+use native.Mathlib.Omega.{arith}
+use lib.Dec.{ltb}
+use lib.ListN.{length, getD, set}
+use lib.Seq.{getD-set-same, getD-set-other}
+use borrow.Author.Tests.{ltb-true, ltb-false, lt-ltb}
+use Rattle.tables.specs.Answers.{Says}
+use Rattle.state_vector.specs.Inner.{Climbs, Finds, Copies, Opens, Nulls}
+use Rattle.state_vector.proofs.Looking.{same-or-not}
+
+-- ## Clients that rise
+
+pub record Rose (cs : List ℕ) (n i : ℕ) (ok : Bool) : Type 0 where
+  pub some : 1 ≤ i
+  pub good : ok ≡ true → Climbs cs i
+  pub bad : ok ≡ false → Climbs cs n → ⊥
+
+pub rose-none : (cs : List ℕ) (n : ℕ) → Rose cs n 1 true
+rose-none cs n = record { some = omega arith; good = λ e. record { up = λ j h. absurd (omega arith) }; bad = λ e. absurd (true≢false e) }
+
+less-at : (l : List ℕ) {p q p′ q′ : ℕ} → p ≡ p′ → q ≡ q′ → getD l p 0 < getD l q 0 → getD l p′ 0 < getD l q′ 0
+less-at l a b h = subst₂ (λ (x y : ℕ). getD l x 0 < getD l y 0) a b h
+
+pub rose-more : {cs : List ℕ} {n i : ℕ} (ok : Bool) → Rose cs n i ok → i < n → Rose cs n (i + 1) (ok && ltb (getD cs (i - 1) 0) (getD cs i 0))
+rose-more {cs} {n} {i} true c h = go (ltb (getD cs (i - 1) 0) (getD cs i 0)) refl
+  where
+    go : (t : Bool) → ltb (getD cs (i - 1) 0) (getD cs i 0) ≡ t → Rose cs n (i + 1) t
+    go true e =
+        record {
+          some = omega arith;
+          good = λ _. record {
+            up = λ k m. ⊎-elim
+                (λ (a : suc k ≡ i). less-at cs (let z : i - 1 ≡ k = omega arith in z) (sym a) (ltb-true (getD cs (i - 1) 0) (getD cs i 0) e))
+                (λ a. c .good refl .up k (omega arith)) (same-or-not (suc k) i);
+          };
+          bad = λ z. absurd (true≢false z);
+        }
+    go false e =
+        record {
+          some = omega arith;
+          good = λ z. absurd (false≢true z);
+          bad = λ _ t. let s = c .some in
+              let u : getD cs (i - 1) 0 < getD cs i 0 = less-at cs refl (let z : suc (i - 1) ≡ i = omega arith in z) (t .up (i - 1) (omega arith)) in
+              omega (arith, ltb-false (getD cs (i - 1) 0) (getD cs i 0) e);
+        }
+rose-more {cs} {n} {i} false c h = record { some = omega (arith, c .some); good = λ z. absurd (false≢true z); bad = c .bad }
+
+pub rose-all : {cs : List ℕ} {n i : ℕ} (ok : Bool) → Rose cs n i ok → n ≤ i → Says (Climbs cs n) ok
+rose-all ok c h = record { right = λ e. record { up = λ j l. c .good e .up j (omega arith) }; wrong = c .bad }
+
+-- ## The place of a client
+
+pub climbs-le : {cs : List ℕ} {n : ℕ} → Climbs cs n → (i d : ℕ) → i + d < n → getD cs i 0 ≤ getD cs (i + d) 0
+climbs-le {cs} c i zero h = subst (λ (k : ℕ). getD cs i 0 ≤ getD cs k 0) (let e : i ≡ i + 0 = omega arith in e) (omega arith)
+climbs-le {cs} c i (suc d) h =
+    subst (λ (k : ℕ). getD cs i 0 ≤ getD cs k 0) (let e : suc (i + d) ≡ i + suc d = omega arith in e) (omega (arith, climbs-le c i d (omega arith), c .up (i + d) (omega arith)))
+
+climbs-at : {cs : List ℕ} {n : ℕ} → Climbs cs n → (i j : ℕ) → i ≤ j → j < n → getD cs i 0 ≤ getD cs j 0
+climbs-at {cs} c i j h l = subst (λ (k : ℕ). getD cs i 0 ≤ getD cs k 0) (let e : i + (j - i) ≡ j = omega arith in e) (climbs-le c i (j - i) (omega arith))
+
+pub record Halves (cs : List ℕ) (n c lo hi : ℕ) : Type 0 where
+  pub order : lo ≤ hi
+  pub within : hi ≤ n
+  pub below : (j : ℕ) → j < lo → getD cs j 0 < c
+  pub above : (j : ℕ) → hi ≤ j → j < n → c ≤ getD cs j 0
+
+pub halves-all : (cs : List ℕ) (n c : ℕ) → Halves cs n c 0 n
+halves-all cs n c = record { order = omega arith; within = omega arith; below = λ j h. absurd (omega arith); above = λ j g h. absurd (let z : ⊥ = omega arith in z) }
+
+pub halves-right : {cs : List ℕ} {n c lo hi : ℕ} (mid : ℕ) → Climbs cs n → Halves cs n c lo hi → mid < hi → getD cs mid 0 < c → Halves cs n c (mid + 1) hi
+halves-right mid g h l e = record { order = omega arith; within = h .within; below = λ j m. omega (arith, climbs-at g j mid (omega arith) (omega (arith, h .within))); above = h .above }
+
+pub halves-left : {cs : List ℕ} {n c lo hi : ℕ} (mid : ℕ) → Climbs cs n → Halves cs n c lo hi → lo ≤ mid → mid < hi → c ≤ getD cs mid 0 → Halves cs n c lo mid
+halves-left mid g h a b e = record { order = a; within = omega (arith, h .within); below = h .below; above = λ j l m. omega (arith, climbs-at g mid j l m) }
+
+pub halves-found : {cs : List ℕ} {n c lo hi : ℕ} → Halves cs n c lo hi → hi ≤ lo → Finds cs n c lo
+halves-found h l = record { within = omega (arith, h .within, h .order); below = h .below; above = λ j a b. h .above j (omega arith) b }
+
+pub finds-last : {cs : List ℕ} {n c : ℕ} → Climbs cs n → 0 < n → getD cs (n - 1) 0 < c → Finds cs n c n
+finds-last {cs} {n} g z l = record { within = omega arith; below = λ j h. omega (arith, climbs-at g j (n - 1) (omega arith) (omega arith)); above = λ j a b. absurd (let y : ⊥ = omega arith in y) }
+
+pub finds-none : {cs : List ℕ} {n c : ℕ} → n ≡ 0 → Finds cs n c 0
+finds-none e = record { within = omega arith; below = λ j h. absurd (omega arith); above = λ j a b. absurd (let z : ⊥ = omega arith in z) }
+
+-- ## Copies and moves
+
+pub copies-none : (s d : List ℕ) → Copies 0 s d
+copies-none s d = record { same = λ j h. absurd (omega arith) }
+
+pub copies-more : {s d : List ℕ} {i : ℕ} → Copies i s d → i < length d → Copies (i + 1) s (set d i (getD s i 0))
+copies-more {s} {d} {i} c h = record {
+  same = λ j l. ⊎-elim
+      (λ (e : j ≡ i). subst (λ (k : ℕ). getD (set d i (getD s i 0)) k 0 ≡ getD s k 0) (sym e) (getD-set-same d i (getD s i 0) 0 h))
+      (λ n. getD-set-other d i j (getD s i 0) 0 n ∙ c .same j (omega arith)) (same-or-not j i);
+}
+
+pub copies-all : {s d : List ℕ} {i n : ℕ} → Copies i s d → n ≤ i → Copies n s d
+copies-all c h = record { same = λ j l. c .same j (omega arith) }
+
+pub record Opening (i n : ℕ) (s out : List ℕ) (j : ℕ) : Type 0 where
+  pub low : i ≤ j
+  pub high : j ≤ n
+  pub kept : (k : ℕ) → k < j → getD out k 0 ≡ getD s k 0
+  pub moved : (k : ℕ) → j ≤ k → k < n → getD out (suc k) 0 ≡ getD s k 0
+
+pub opening-none : (i n : ℕ) (s : List ℕ) → i ≤ n → Opening i n s s n
+opening-none i n s h = record { low = h; high = omega arith; kept = λ k _. refl; moved = λ k a b. absurd (let z : ⊥ = omega arith in z) }
+
+pub opening-more : {i n : ℕ} {s out : List ℕ} {j : ℕ} → Opening i n s out j → i < j → j < length out → Opening i n s (set out j (getD out (j - 1) 0)) (j - 1)
+opening-more {i} {n} {s} {out} {j} c h l = record {
+  low = omega arith;
+  high = omega (arith, c .high);
+  kept = λ k m. getD-set-other out j k v 0 (λ e. omega arith) ∙ c .kept k (omega arith);
+  moved = λ k a b. ⊎-elim
+      (λ (e : suc k ≡ j). subst (λ (x : ℕ). getD (set out j v) x 0 ≡ getD s k 0) (sym e) (getD-set-same out j v 0 l ∙ c .kept (j - 1) (omega arith)
+      ∙ ap (λ (x : ℕ). getD s x 0) (let z : j - 1 ≡ k = omega arith in z)))
+      (λ n. getD-set-other out j (suc k) v 0 n ∙ c .moved k (omega arith) b) (same-or-not (suc k) j);
+}
+  where
+    v : ℕ
+    v = getD out (j - 1) 0
+
+pub opening-all : {i n : ℕ} {s out : List ℕ} {j : ℕ} → Opening i n s out j → j ≤ i → Opens i n s out
+opening-all c h = record { kept = λ k l. c .kept k (omega (arith, c .low)); moved = λ k a b. c .moved k (omega arith) b }
+
+-- ## Clocks above 0
+
+pub nulls-none : (ks : List ℕ) (i : ℕ) → Nulls ks i i false
+nulls-none ks i = record { none = λ _ j a b. absurd (let z : ⊥ = omega arith in z); some = λ _. refl }
+
+pub nulls-more : {ks : List ℕ} {m i : ℕ} (found : Bool) → Nulls ks m i found → m ≤ i → Nulls ks m (i + 1) (found || ltb 0 (getD ks i 0))
+nulls-more {ks} {m} {i} true c h = record { none = λ e. absurd (true≢false e); some = λ f. c .some (λ j a b. f j a (omega arith)) }
+nulls-more {ks} {m} {i} false c h = go (ltb 0 (getD ks i 0)) refl
+  where
+    go : (t : Bool) → ltb 0 (getD ks i 0) ≡ t → Nulls ks m (i + 1) t
+    go true e = record { none = λ z. absurd (true≢false z); some = λ f. absurd (let y : ⊥ = omega (arith, ltb-true 0 (getD ks i 0) e, f i h (omega arith)) in y) }
+    go false e = record { none = λ _ j a b. ⊎-elim (λ (q : j ≡ i). ap (λ (x : ℕ). getD ks x 0) q ∙ omega (arith, ltb-false 0 (getD ks i 0) e)) (λ n. c .none refl j a (omega arith)) (same-or-not j i); some = λ _. refl }
+
+pub nulls-all : {ks : List ℕ} {m n i : ℕ} {found : Bool} → Nulls ks m i found → i ≤ n → n ≤ i → Nulls ks m n found
+nulls-all {ks} {m} {n} {i} {found} c a b = subst (λ (k : ℕ). Nulls ks m k found) (let e : i ≡ n = omega arith in e) c
+
+pub climbs-less : {cs : List ℕ} {n : ℕ} → Climbs cs n → (i j : ℕ) → i < j → j < n → getD cs i 0 < getD cs j 0
+climbs-less c i j h l = omega (arith, c .up i (omega arith), climbs-at c (suc i) j (omega arith) l)

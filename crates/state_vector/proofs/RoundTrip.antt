@@ -1,0 +1,93 @@
+-- Decoding what was encoded gives the same rows, and two vectors never have the same bytes. Assumes nothing.
+use mathlib.Core.Path.{_≡_, refl, ap, ap₂, sym, subst, _∙_}
+use mathlib.Core.List.{List, [], _∷_, _++_, append-nil, append-assoc}
+use mathlib.Core.Bool.{cond}
+use Prim.Native.Nat.{ℕ, zero, suc, _+_, _^_, _≤_, _<_}
+use native.Mathlib.Omega.{arith}
+use borrow.Author.Tests.{le-leb}
+use lib.ListN.{length, drop, length-append}
+use lib.Seq.{drop-drop, drop-append-seam}
+use Rattle.varint.specs.Number.{Answer, andThen, readAt, bytesOf, Written, unwritten, writeAt}
+use Rattle.varint.specs.Number as number
+use Rattle.varint.proofs.Chaining.{Put, put, put-read}
+use Rattle.varint.proofs.RoundTrip.{read-written}
+use Rattle.state_vector.specs.Rows.{Row, row, In, at, First, Rising, VectorOf}
+use Rattle.state_vector.specs.Vectors.{Slices, Held, rows, most, Table, filled}
+use Rattle.state_vector.specs.Bytes.{rowBytes, encoded, Words, stored, Pairs, read, stop, pairsAt, vectorAt, Encodes, writes, malformed, Decoding, decoding, Decodes, done, refused}
+use Rattle.state_vector.proofs.Looking.{look, look-past, vector-one}
+use Rattle.state_vector.proofs.Decoding.{Same, same-vector, stored-ways}
+
+-- ## Pairs of rising rows are stored one behind the other
+
+less-behind : (s : Row) (t : List Row) (r : Row) (ts : List Row) → Rising (s ∷ (t ++ (r ∷ ts))) → s .client < r .client
+less-behind s [] r ts g = g .0
+less-behind s (q ∷ t) r ts g = omega (arith, g .0, less-behind q t r ts (g .1))
+
+stored-behind : (t : List Row) (r : Row) (ts : List Row) → Rising (t ++ (r ∷ ts)) → stored t r ≡ t ++ (r ∷ [])
+unfolding stored
+stored-behind [] r ts g = refl
+stored-behind (s ∷ t) r ts g =
+    stored-ways r s t (λ l. l ≡ (s ∷ t) ++ (r ∷ [])) (λ e. absurd (let z : ⊥ = omega (arith, less-behind s t r ts g) in z)) (λ n. ap (λ (l : List Row). s ∷ l) (stored-behind t r ts (g .1)))
+
+next-place : (bytes xs ys : List ℕ) (p : ℕ) → drop p bytes ≡ xs ++ ys → drop (p + length xs) bytes ≡ ys
+next-place bytes xs ys p e = sym (drop-drop (length xs) p bytes) ∙ ap (drop (length xs)) e ∙ drop-append-seam xs ys
+
+module _ (m : ℕ) (bytes rest : List ℕ) where
+  pairs-back : (ts got : List Row) (p : ℕ) → Words ts → Rising (got ++ ts) → length (got ++ ts) ≤ m → drop p bytes ≡ rowBytes ts ++ rest
+      → pairsAt m bytes (length ts) got p ≡ read (got ++ ts) (p + length (rowBytes ts))
+  unfolding andThen pairsAt rowBytes Words
+  pairs-back [] got p w g l e = ap₂ read (sym (append-nil got)) (let z : p ≡ p + 0 = omega arith in z)
+  pairs-back (r ∷ ts) got p w g l e =
+      let c = bytesOf (r .client) in
+      let k = bytesOf (r .clock) in
+      let e₁ : drop p bytes ≡ c ++ (k ++ (rowBytes ts ++ rest)) = e ∙ append-assoc (c ++ k) (rowBytes ts) rest ∙ append-assoc c k (rowBytes ts ++ rest) in
+      let e₂ = next-place bytes c (k ++ (rowBytes ts ++ rest)) p e₁ in
+      let e₃ = next-place bytes k (rowBytes ts ++ rest) (p + length c) e₂ in
+      let s : stored got r ≡ got ++ (r ∷ []) = stored-behind got r ts g in
+      let a : (got ++ (r ∷ [])) ++ ts ≡ got ++ (r ∷ ts) = append-assoc got (r ∷ []) ts in
+      let f : length (stored got r) ≤ m = subst (λ (x : List Row). length x ≤ m) (sym s) (omega (arith, simp length-append at l, length-append got (r ∷ []))) in
+      let x₁ : readAt 64 bytes p ≡ number.done (r .client) (p + length c) = read-written 64 (r .client) p bytes (k ++ (rowBytes ts ++ rest)) (omega arith) (omega arith) (w .0) e₁ in
+      let x₂ : readAt 32 bytes (p + length c) ≡ number.done (r .clock) (p + length c + length k) =
+      read-written 32 (r .clock) (p + length c) bytes (rowBytes ts ++ rest) (omega arith) (omega arith) (w .1) e₂ in
+      rw (x₁, x₂, le-leb (length (stored got r)) m f)
+      (ap (λ (x : List Row). pairsAt m bytes (length ts) x (p + length c + length k)) s
+      ∙ pairs-back ts (got ++ (r ∷ [])) (p + length c + length k) (w .2) (subst Rising (sym a) g) (subst (λ (x : List Row). length x ≤ m) (sym a) l) e₃
+      ∙ ap₂ read a (simp length-append (omega arith)))
+
+  pub vector-back : (t : List Row) (p : ℕ) → Words t → Rising t → length t ≤ m → length t < 2 ^ 32 → drop p bytes ≡ encoded t ++ rest → vectorAt m bytes p ≡ read t (p + length (encoded t))
+  unfolding andThen vectorAt encoded
+  vector-back t p w g l h e =
+      let n = bytesOf (length t) in
+      let e₁ : drop p bytes ≡ n ++ (rowBytes t ++ rest) = e ∙ append-assoc n (rowBytes t) rest in
+      let x : readAt 32 bytes p ≡ number.done (length t) (p + length n) = read-written 32 (length t) p bytes (rowBytes t ++ rest) (omega arith) (omega arith) h e₁ in
+      rw x (pairs-back t [] (p + length n) w g l (next-place bytes n (rowBytes t ++ rest) p e₁) ∙ ap (read t) (simp length-append (omega arith)))
+
+pub own-vector : (t : List Row) → Rising t → VectorOf (In t) (at t) t
+own-vector t g = same-vector (record { rising = g; looks = λ c. refl; many = refl })
+
+-- DECODING WHAT WAS ENCODED, WITH ROOM FOR IT, GIVES THE SAME ROWS, AND THE PLACE PAST THEM
+pub round-trip : (a : Held) (buf after : List ℕ) (place p : ℕ) (o out : Slices) (d : Decoding) → Words (rows a) → length (rows a) ≤ most o
+    → Encodes a buf place (record { no = 0; place = p; buffer = after }) → Decodes after place o out d → (d ≡ decoding 0 (length (rows a)) p) × (out ≡ filled (rows a) o)
+round-trip a buf after place p o out d w l (malformed n e) x = absurd (let z = ap (λ (v : Written). v .no) e in omega arith)
+round-trip a buf after place p o out d w l (writes t e) x = go x
+  where
+    back : vectorAt (most o) after place ≡ read (rows a) p
+    back =
+        let g : Put (encoded (rows a)) buf place after p = put e in
+        vector-back (most o) after _ (rows a) place w (t .rising) l (omega arith) (put-read g) ∙ ap (read (rows a)) (sym (g .place))
+
+    go : Decodes after place o out d → (d ≡ decoding 0 (length (rows a)) p) × (out ≡ filled (rows a) o)
+    go (done got u q f v i j) =
+        let y : got ≡ rows a = cc back in
+        let z : q ≡ p = cc back in
+        let same : u ≡ rows a = vector-one u (rows a) (subst (λ (x : List Row). VectorOf (In x) (at x) u) y v) (own-vector (rows a) (t .rising)) in
+        (i ∙ ap₂ (λ (x : List Row) (n : ℕ). decoding 0 (length x) n) same z, j ∙ ap (λ (x : List Row). filled x o) same)
+    go (refused n f i j) = absurd (let z : _≡_ {A = ℕ} 0 1 = cc back in omega arith)
+
+-- TWO VECTORS NEVER HAVE THE SAME BYTES
+pub encoded-one : (t u : List Row) → Rising t → Rising u → Words t → Words u → length t < 2 ^ 32 → length u < 2 ^ 32 → encoded t ≡ encoded u → t ≡ u
+encoded-one t u g h w v l k e =
+    let m = length t + length u in
+    let a = vector-back m (encoded t) [] t 0 w g (omega arith) l (sym (append-nil (encoded t))) in
+    let b = vector-back m (encoded t) [] u 0 v h (omega arith) k (e ∙ sym (append-nil (encoded u))) in
+    cc
