@@ -330,11 +330,6 @@ impl Bench {
     pub fn ids(&mut self) { for (op, goal) in [0.45, 0.40, 0.40].into_iter().enumerate() { self.id_op(op, 64, 16, Some(goal), true); } }
 
     // ---- state vectors
-    #[cfg(not(vectors))]
-    pub fn vectors(&mut self) {}
-    #[cfg(not(vectors))]
-    fn vector(&mut self, _: usize, _: usize, _: bool) -> [(f64, f64); 4] { [(f64::NAN, f64::NAN); 4] }
-    #[cfg(vectors)]
     /// Two vectors of `n` clients of which `shared` are in both: merge, decode, encode, compare.
     fn vector(&mut self, n: usize, shared: usize, show: bool) -> [(f64, f64); 4] {
         let r = &mut self.rng;
@@ -400,7 +395,6 @@ impl Bench {
         }
         [(merge[0], merge[2]), (decode[0], decode[1]), (encode[0], encode[1]), (cmp[0], cmp[1])]
     }
-    #[cfg(vectors)]
     pub fn vectors(&mut self) {
         self.vector(256, 256, true);
         self.vector(192, 128, true);
@@ -430,11 +424,11 @@ impl Bench {
             self.growth.push((format!("{} of two tables, 16 rows a client", ["id merge", "id diff", "id intersect"][op]), v.to_vec()));
         }
         let vs = [16, 64, 256].map(|n| (n, self.vector(n, n, false)));
-        if cfg!(vectors) { for (i, name) in ["vector merge", "vector decode", "vector encode", "vector compare"].into_iter().enumerate() {
+        for (i, name) in ["vector merge", "vector decode", "vector encode", "vector compare"].into_iter().enumerate() {
             let mut v: Vec<_> = vs.iter().map(|(n, t)| Some((*n, t[i].0, t[i].1))).collect();
             v.push(None);
             self.growth.push((name.into(), v));
-        } }
+        }
         for (name, v) in &self.growth { println!("{name:<44} {}", v.iter().map(|x| x.map_or("-".into(), |(n, y, o)| format!("{o:.0} ns ({:.2} a row{})", o / n as f64, if y.is_nan() { String::new() } else { format!(", {:.2} of yrs", o / y) }))).collect::<Vec<_>>().join("  ")) }
     }
 }
