@@ -24,7 +24,6 @@ fn cut(text: &str, first: &str, last: &str) -> String {
 fn main() {
     println!("cargo:rerun-if-env-changed=RATTLE_LIB");
     println!("cargo:rustc-check-cfg=cfg(rattle)");
-    println!("cargo:rustc-check-cfg=cfg(vectors)");
     if let Ok(dir) = env::var("RATTLE_LIB") {
         println!("cargo:rerun-if-changed={dir}/libffi.a");
         println!("cargo:rustc-link-search=native={dir}");
@@ -33,10 +32,7 @@ fn main() {
         let src = concat!(env!("CARGO_MANIFEST_DIR"), "/../crates/ffi/src/lib.rt");
         println!("cargo:rerun-if-changed={src}");
         println!("cargo:rerun-if-changed={}", concat!(env!("CARGO_MANIFEST_DIR"), "/../bindings/boundary.rs"));
-        let text = fs::read_to_string(src).unwrap();
-        // state vectors, once they cross the boundary
-        if text.contains("fn iz_vector_get(") { println!("cargo:rustc-cfg=vectors") }
-        fs::write(PathBuf::from(env::var("OUT_DIR").unwrap()).join("boundary.rs"), boundary(&text)).unwrap();
+        fs::write(PathBuf::from(env::var("OUT_DIR").unwrap()).join("boundary.rs"), boundary(&fs::read_to_string(src).unwrap())).unwrap();
     }
     // other libraries for the measurements, where PEERS_LIB names the folder of libpeers.a
     println!("cargo:rerun-if-env-changed=PEERS_LIB");

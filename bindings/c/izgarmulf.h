@@ -33,6 +33,12 @@ typedef struct { uint32_t no; bool some; size_t value; } iz_index;
 typedef struct { uint32_t no; bool some; uint32_t value; } iz_bound;
 /* A row of a range table, or none: then `some` is false, start and end 0. */
 typedef struct { uint32_t no; bool some; uint32_t start; uint32_t end; } iz_row;
+/* A clock: 0 if refused. */
+typedef struct { uint32_t no; uint32_t value; } iz_value;
+/* How two vectors compare: 1 less, 2 equal, 3 greater, 0 none of these or refused. */
+typedef struct { uint32_t no; uint8_t value; } iz_verdict;
+/* A vector read: how many rows, and the place past it; 0 and the place as given if refused. */
+typedef struct { uint32_t no; size_t count; size_t next; } iz_vector;
 
 iz_number iz_read_u8(const uint8_t *bytes, size_t bytes_len, size_t at);
 iz_number iz_read_u32(const uint8_t *bytes, size_t bytes_len, size_t at);
@@ -87,6 +93,13 @@ iz_rows iz_ids_intersect(const uint64_t *clients, size_t clients_len, const uint
 iz_yes_no iz_ids_contains(const uint64_t *clients, size_t clients_len, const uint32_t *starts, size_t starts_len, const uint32_t *ends, size_t ends_len, size_t count, uint64_t client, uint32_t clock);
 iz_yes_no iz_ids_is_empty(const uint64_t *clients, size_t clients_len, const uint32_t *starts, size_t starts_len, const uint32_t *ends, size_t ends_len, size_t count);
 iz_count iz_ids_len(const uint64_t *clients, size_t clients_len, const uint32_t *starts, size_t starts_len, const uint32_t *ends, size_t ends_len, size_t count);
+iz_value iz_vector_get(const uint64_t *clients, size_t clients_len, const uint32_t *clocks, size_t clocks_len, size_t count, uint64_t client);
+iz_rows iz_vector_set_min(const uint64_t *clients, size_t clients_len, const uint32_t *clocks, size_t clocks_len, size_t count, uint64_t client, uint32_t clock, uint64_t *to_clients, size_t to_clients_len, uint32_t *to_clocks, size_t to_clocks_len);
+iz_rows iz_vector_set_max(const uint64_t *clients, size_t clients_len, const uint32_t *clocks, size_t clocks_len, size_t count, uint64_t client, uint32_t clock, uint64_t *to_clients, size_t to_clients_len, uint32_t *to_clocks, size_t to_clocks_len);
+iz_rows iz_vector_merge(const uint64_t *clients, size_t clients_len, const uint32_t *clocks, size_t clocks_len, size_t count, const uint64_t *b_clients, size_t b_clients_len, const uint32_t *b_clocks, size_t b_clocks_len, size_t b_count, uint64_t *to_clients, size_t to_clients_len, uint32_t *to_clocks, size_t to_clocks_len);
+iz_verdict iz_vector_partial_cmp(const uint64_t *clients, size_t clients_len, const uint32_t *clocks, size_t clocks_len, size_t count, const uint64_t *b_clients, size_t b_clients_len, const uint32_t *b_clocks, size_t b_clocks_len, size_t b_count);
+iz_place iz_vector_encode(const uint64_t *clients, size_t clients_len, const uint32_t *clocks, size_t clocks_len, size_t count, uint8_t *buf, size_t buf_len, size_t at);
+iz_vector iz_vector_decode(const uint8_t *bytes, size_t bytes_len, size_t at, uint64_t *to_clients, size_t to_clients_len, uint32_t *to_clocks, size_t to_clocks_len);
 
 #ifdef __cplusplus
 }

@@ -22,10 +22,5 @@ fn main() {
     let source = root.join("crates/ffi/src/lib.rt");
     println!("cargo:rerun-if-changed={}", source.display());
     let text = fs::read_to_string(&source).unwrap_or_else(|e| panic!("{}: {e}", source.display()));
-    // state vectors, once they cross the boundary
-    println!("cargo:rustc-check-cfg=cfg(vectors)");
-    if text.contains("fn iz_vector_get(") {
-        println!("cargo:rustc-cfg=vectors");
-    }
     fs::write(PathBuf::from(env::var("OUT_DIR").unwrap()).join("boundary.rs"), boundary(&text)).unwrap();
 }

@@ -69,6 +69,13 @@ fn our_op(op: usize, a: &[u32], b: &[u32], out: &mut [u32]) -> usize {
     r.count
 }
 
+type Bare = extern "C" fn(*const u8, usize, usize) -> Number;
+type Put = extern "C" fn(u64, *mut u8, usize, usize) -> Place;
+#[inline(never)]
+extern "C" fn one_byte(b: *const u8, _: usize, at: usize) -> Number { Number { no: 0, value: unsafe { *b.add(at) } as u64, next: at + 1 } }
+#[inline(never)]
+extern "C" fn put_byte(v: u64, b: *mut u8, _: usize, at: usize) -> Place { unsafe { *b.add(at) = v as u8 } Place { no: 0, next: at + 1 } }
+
 impl Bench {
     // ---- numbers
     pub fn numbers(&mut self) {
@@ -108,6 +115,16 @@ impl Bench {
                 Box::new(|| timed(|| for v in &ns { w2.clear(); for &x in bb(v) { w2.write_var(x) } bb(&w2); })),
                 Box::new(|| timed(|| for v in &ns { let o = bb(&mut o2[..]); let mut at = 0; for &x in bb(v) { let r = iz_write_u32(x, o, at); assert!(r.no == 0); at = r.next } bb(at); })),
             ]);
+            if m == 2 {
+                // the least that a call through the boundary can cost: one byte, and the answer; no test, no loop
+                let (f, g): (Bare, Put) = (bb(one_byte), bb(put_byte));
+                let p = self.race(per, &mut [
+                    Box::new(|| timed(|| for b in &bs { let b = bb(&b[..]); let (mut at, mut s) = (0, 0); for _ in 0..N { let r = f(b.as_ptr(), b.len(), at); s ^= r.value; at = r.next } bb(s); })),
+                    Box::new(|| timed(|| for v in &vs { let o = bb(&mut to[..]); let mut at = 0; for &x in bb(v) { at = g(x, o.as_mut_ptr(), o.len(), at).next } bb(at); })),
+                ]);
+                self.parts.push(("read of one byte: a call that only loads it and answers".into(), p[0]));
+                self.parts.push(("write of one byte: a call that only stores it and answers".into(), p[1]));
+            }
             let peers = crate::bench::peers::numbers(self, &bs, &vs, N);
             for (i, t) in [(0, "u64"), (1, "u32")] {
                 self.line(Line { group: "Numbers", name: format!("read {t}, {what}"), goal: Some([0.65, 0.80, 0.50][m]), limit: None, yrs: read[2 * i], alone: None, ours: read[2 * i + 1], copy: read[4], peers: peers.0[i].clone() });
@@ -313,11 +330,6 @@ impl Bench {
     pub fn ids(&mut self) { for (op, goal) in [0.45, 0.40, 0.40].into_iter().enumerate() { self.id_op(op, 64, 16, Some(goal), true); } }
 
     // ---- state vectors
-    #[cfg(not(vectors))]
-    pub fn vectors(&mut self) {}
-    #[cfg(not(vectors))]
-    fn vector(&mut self, _: usize, _: usize, _: bool) -> [(f64, f64); 4] { [(f64::NAN, f64::NAN); 4] }
-    #[cfg(vectors)]
     /// Two vectors of `n` clients of which `shared` are in both: merge, decode, encode, compare.
     fn vector(&mut self, n: usize, shared: usize, show: bool) -> [(f64, f64); 4] {
         let r = &mut self.rng;
@@ -383,7 +395,6 @@ impl Bench {
         }
         [(merge[0], merge[2]), (decode[0], decode[1]), (encode[0], encode[1]), (cmp[0], cmp[1])]
     }
-    #[cfg(vectors)]
     pub fn vectors(&mut self) {
         self.vector(256, 256, true);
         self.vector(192, 128, true);
@@ -413,11 +424,11 @@ impl Bench {
             self.growth.push((format!("{} of two tables, 16 rows a client", ["id merge", "id diff", "id intersect"][op]), v.to_vec()));
         }
         let vs = [16, 64, 256].map(|n| (n, self.vector(n, n, false)));
-        if cfg!(vectors) { for (i, name) in ["vector merge", "vector decode", "vector encode", "vector compare"].into_iter().enumerate() {
+        for (i, name) in ["vector merge", "vector decode", "vector encode", "vector compare"].into_iter().enumerate() {
             let mut v: Vec<_> = vs.iter().map(|(n, t)| Some((*n, t[i].0, t[i].1))).collect();
             v.push(None);
             self.growth.push((name.into(), v));
-        } }
+        }
         for (name, v) in &self.growth { println!("{name:<44} {}", v.iter().map(|x| x.map_or("-".into(), |(n, y, o)| format!("{o:.0} ns ({:.2} a row{})", o / n as f64, if y.is_nan() { String::new() } else { format!(", {:.2} of yrs", o / y) }))).collect::<Vec<_>>().join("  ")) }
     }
 }

@@ -151,5 +151,4 @@ pub mod ids {
     }
 }
 
-#[cfg(vectors)]
 pub mod vectors;

@@ -13,13 +13,11 @@ mod sys {
 
 mod ids;
 pub mod lent;
-#[cfg(vectors)]
 mod state_vector;
 #[allow(missing_docs)]
 pub mod varint;
 
 pub use ids::{IdRanges, IdTable};
-#[cfg(vectors)]
 pub use state_vector::StateVector;
 
 /// The most rows of a range table and of an id table.

@@ -1,6 +1,7 @@
 //! Tables against the standard library's sets and maps, on random small steps.
-use izgarmulf::{ClientID, IdRanges, IdTable, Refusal, ID, ROW_LIMIT};
-use std::collections::BTreeSet;
+use izgarmulf::{ClientID, IdRanges, IdTable, Refusal, StateVector, ID, ROW_LIMIT, VECTOR_LIMIT};
+use std::cmp::Ordering;
+use std::collections::{BTreeMap, BTreeSet};
 use std::ops::Range;
 
 /// SplitMix64.
@@ -146,12 +147,8 @@ fn id_tables_are_sets() {
     }
 }
 
-#[cfg(vectors)]
 #[test]
 fn vectors_are_maps() {
-    use izgarmulf::{StateVector, VECTOR_LIMIT};
-    use std::cmp::Ordering;
-    use std::collections::BTreeMap;
     let mut r = Rng(4);
     for _ in 0..400 {
         let mut both: Vec<(StateVector, BTreeMap<ClientID, u32>)> = vec![Default::default(); 2];
