@@ -1,6 +1,6 @@
 -- Id tables in lent slices, and what each routine promises. Document 01, "Tables", "Range operations" and "What a desk has received".
 use mathlib.Core.Path.{_≡_}
-use mathlib.Core.Logic.{_⊎_}
+use mathlib.Core.Logic.{_⊎_, _↔_}
 use mathlib.Core.List.{List, [], _∷_, _++_, map}
 use mathlib.Core.Bool.{Bool, true, false}
 use Prim.Native.Nat.{ℕ, zero, suc, _-_, _≤_, _<_, min}
@@ -91,3 +91,26 @@ Contains a c k r = Tells (Table a) (Says (Holds (rows a) c k)) false (saidTold r
 -- "its `is_empty` says whether it has no row"
 abbrev pub Empty : Held → Told → Type 0
 Empty a r = Tells (Table a) (Says (rows a ≡ [])) false (saidTold r)
+
+-- "its `len` counts clients": how many there are in a strictly rising list of exactly the clients that have a row
+abbrev pub Has : List Row → ℕ → Type 0
+Has [] c = ⊥
+Has (r ∷ rs) c = (c ≡ r .client) ⊎ Has rs c
+
+abbrev pub Among : List ℕ → ℕ → Type 0
+Among [] c = ⊥
+Among (d ∷ ds) c = (c ≡ d) ⊎ Among ds c
+
+abbrev pub Rising : List ℕ → Type 0
+Rising [] = Unit {0}
+Rising (c ∷ []) = Unit {0}
+Rising (c ∷ d ∷ ds) = (c < d) × Rising (d ∷ ds)
+
+pub record Clients (t : List Row) (n : ℕ) : Type 0 where
+  pub each : List ℕ
+  pub rising : Rising each
+  pub exactly : (c : ℕ) → Among each c ↔ Has t c
+  pub many : n ≡ length each
+
+abbrev pub Len : Held → Counted → Type 0
+Len a r = Tells (Table a) (Clients (rows a)) 0 (saidCounted r)

@@ -1,1 +1,924 @@
 // Id tables: rows (client, start, end) in three lent slices, as desks hold and send them.
+ghost use mathlib.Core.Path.{_≡_};
+ghost use mathlib.Core.List.{_++_};
+ghost use mathlib.Core.List.{List};
+ghost use Prim.Native.Nat.{ℕ, _+_, _-_, _*_, _≤_, _<_, min};
+ghost use lib.ListN.{length, getD, take, replicate};
+ghost use Rattle.tables.specs.Answers.{Says};
+ghost use Rattle.tables.specs.Limits.{rowLimit};
+ghost use Rattle.tables.specs.Inner.Rows.{at, span, combined, union, difference, intersection};
+ghost use Rattle.tables.specs.Inner.Differ.{GapStart, GapEnd};
+ghost use Rattle.tables.specs.Inner.Sweep.{Holds};
+ghost use Rattle.tables.specs.Inner.Unite.{Counted as Counts, United};
+ghost use Rattle.ids.specs.Rows.{row};
+ghost use Rattle.ids.specs.Tables.{three, held, room, rowsOf, filled, Captured, Merged, Diffed, Intersected, Inserted, Contains, Empty, Clients, Len};
+ghost use Rattle.ids.specs.Inner.{numberOf, idRow, NoneEmpty, Apart, idRows, IdTable, Checked, Both, Finished, beyond, Picked, Stored, Further, Takes, Open, Joins, Merging, Tail, final, Shares, Puts, Fresh};
+
+// Whether the id (c, x) comes before the id (d, y).
+fn precedes(c: u64, x: u32, d: u64, y: u32) -> bool
+    ensures { λ r. ⌜ Says (numberOf c x < numberOf d y) r ⌝ }
+{
+    (c < d) | ((c == d) & (x < y))
+}
+
+fn least(x: usize, y: usize) -> usize
+    ensures { λ r. ⌜ r ≡ min x y ⌝ }
+{
+    if x < y { x } else { y }
+}
+
+// How many rows three slices of these lengths hold, within the limit.
+fn most_rows(a: usize, b: usize, c: usize) -> usize
+    ensures { λ r. ⌜ r ≡ min rowLimit (min a (min b c)) ⌝ }
+{
+    least(tables::ROW_LIMIT, least(a, least(b, c)))
+}
+
+// Whether none of the first `n` rows is empty.
+fn none_empty(starts: &[u32], ends: &[u32], n: usize) -> bool
+    requires { ⌜ (n ≤ length (now starts)) × (n ≤ length (now ends)) ⌝ }
+    ensures { λ r. ⌜ Says ((j : ℕ) → j < n → NoneEmpty (now (starts .entry)) (now (ends .entry)) j) r ⌝ }
+{
+    let mut ok = true;
+    let mut i: usize = 0;
+    while i < n {
+        ok = ok & (starts[i] < ends[i]);
+        i += 1;
+    }
+    ok
+}
+
+// Whether each of the first `n` rows starts past the end of the row before it.
+fn apart(clients: &[u64], starts: &[u32], ends: &[u32], n: usize) -> bool
+    requires { ⌜ (n ≤ length (now clients)) × (n ≤ length (now starts)) × (n ≤ length (now ends)) ⌝ }
+    ensures { λ r. ⌜ Says ((j : ℕ) → j + 1 < n → Apart (now (clients .entry)) (now (starts .entry)) (now (ends .entry)) j) r ⌝ }
+{
+    let mut ok = true;
+    let mut i: usize = 0;
+    while i + 1 < n {
+        let next = i + 1;
+        ok = ok & precedes(clients[i], ends[i], clients[next], starts[next]);
+        i = next;
+    }
+    ok
+}
+
+// Whether the slices hold a table. No early exit: the loops become SIMD.
+fn well_formed(clients: &[u64], starts: &[u32], ends: &[u32], count: usize) -> bool
+    ensures { λ r. ⌜ Checked (now (clients .entry)) (now (starts .entry)) (now (ends .entry)) count r ⌝ }
+{
+    if most_rows(clients.len(), starts.len(), ends.len()) < count {
+        return false;
+    }
+    none_empty(starts, ends, count) & apart(clients, starts, ends, count)
+}
+
+// Whether both tables are well formed.
+fn both_formed(
+    clients: &[u64],
+    starts: &[u32],
+    ends: &[u32],
+    count: usize,
+    b_clients: &[u64],
+    b_starts: &[u32],
+    b_ends: &[u32],
+    b_count: usize,
+) -> bool
+    ensures { λ r. ⌜ Both (now (clients .entry)) (now (starts .entry)) (now (ends .entry)) count (now («b_clients» .entry)) (now («b_starts» .entry)) (now («b_ends» .entry)) «b_count» r ⌝ }
+{
+    well_formed(clients, starts, ends, count) & well_formed(b_clients, b_starts, b_ends, b_count)
+}
+
+// The first `n` elements of `src`, and zeros behind them.
+fn copy_wide(src: &[u64], n: usize, out: &mut [u64])
+    requires { ⌜ (n ≤ length (now src)) × (n ≤ length (now out)) ⌝ }
+    ensures { λ r. ⌜ now (out .exit) ≡ take n (now (src .entry)) ++ replicate (length (now (out .entry)) - n) 0 ⌝ }
+{
+    let mut i: usize = 0;
+    while i < n {
+        out[i] = src[i];
+        i += 1;
+    }
+    tables::zero_wide(&mut out[n..]);
+}
+
+// The first `n` elements of `src`, and zeros behind them.
+fn copy(src: &[u32], n: usize, out: &mut [u32])
+    requires { ⌜ (n ≤ length (now src)) × (n ≤ length (now out)) ⌝ }
+    ensures { λ r. ⌜ now (out .exit) ≡ take n (now (src .entry)) ++ replicate (length (now (out .entry)) - n) 0 ⌝ }
+{
+    let mut i: usize = 0;
+    while i < n {
+        out[i] = src[i];
+        i += 1;
+    }
+    tables::zero(&mut out[n..]);
+}
+
+// The first `k` rows stay, and every later element becomes zero.
+fn trim(to_clients: &mut [u64], to_starts: &mut [u32], to_ends: &mut [u32], k: usize)
+    requires { ⌜ k ≤ room (three (now «to_clients») (now «to_starts») (now «to_ends»)) ⌝ }
+    ensures { λ r. ⌜ three (now («to_clients» .exit)) (now («to_starts» .exit)) (now («to_ends» .exit))
+        ≡ filled (rowsOf k (now («to_clients» .entry)) (now («to_starts» .entry)) (now («to_ends» .entry)))
+        (three (now («to_clients» .entry)) (now («to_starts» .entry)) (now («to_ends» .entry))) ⌝ }
+{
+    tables::zero_wide(&mut to_clients[k..]);
+    tables::zero(&mut to_starts[k..]);
+    tables::zero(&mut to_ends[k..]);
+}
+
+// An unchanged copy of a table.
+pub fn capture(
+    clients: &[u64],
+    starts: &[u32],
+    ends: &[u32],
+    count: usize,
+    to_clients: &mut [u64],
+    to_starts: &mut [u32],
+    to_ends: &mut [u32],
+) -> tables::Made
+    ensures { λ r. ⌜ Captured (held (now (clients .entry)) (now (starts .entry)) (now (ends .entry)) count)
+        (three (now («to_clients» .entry)) (now («to_starts» .entry)) (now («to_ends» .entry)))
+        (three (now («to_clients» .exit)) (now («to_starts» .exit)) (now («to_ends» .exit))) r ⌝ }
+{
+    if !well_formed(clients, starts, ends, count) {
+        trim(to_clients, to_starts, to_ends, 0);
+        return tables::Made::Refused(varint::Refusal::Malformed);
+    }
+    if most_rows(to_clients.len(), to_starts.len(), to_ends.len()) < count {
+        trim(to_clients, to_starts, to_ends, 0);
+        return tables::Made::Refused(varint::Refusal::Full);
+    }
+    copy_wide(clients, count, to_clients);
+    copy(starts, count, to_starts);
+    copy(ends, count, to_ends);
+    tables::Made::Rows(count)
+}
+
+// Zero behind the `k` rows that were put out, or everywhere if there is no room for them.
+fn finish(
+    to_clients: &mut [u64],
+    to_starts: &mut [u32],
+    to_ends: &mut [u32],
+    most: usize,
+    k: usize,
+) -> tables::Made
+    requires { ⌜ most ≤ room (three (now «to_clients») (now «to_starts») (now «to_ends»)) ⌝ }
+    ensures { λ r. ⌜ Finished most k (three (now («to_clients» .entry)) (now («to_starts» .entry)) (now («to_ends» .entry)))
+        (three (now («to_clients» .exit)) (now («to_starts» .exit)) (now («to_ends» .exit))) r ⌝ }
+{
+    if most < k {
+        trim(to_clients, to_starts, to_ends, 0);
+        return tables::Made::Refused(varint::Refusal::Full);
+    }
+    trim(to_clients, to_starts, to_ends, k);
+    tables::Made::Rows(k)
+}
+
+fn pick(t: bool, x: u32, y: u32) -> u32
+    ensures { λ r. ⌜ Picked t x y r ⌝ }
+{
+    if t { x } else { y }
+}
+
+fn pick_wide(t: bool, x: u64, y: u64) -> u64
+    ensures { λ r. ⌜ Picked t x y r ⌝ }
+{
+    if t { x } else { y }
+}
+
+fn pick_place(t: bool, x: usize, y: usize) -> usize
+    ensures { λ r. ⌜ Picked t x y r ⌝ }
+{
+    if t { x } else { y }
+}
+
+// The next row of two tables, and the places behind it.
+pub struct Taken {
+    pub i: usize,
+    pub j: usize,
+    pub client: u64,
+    pub start: u32,
+    pub end: u32,
+}
+
+// Of the rows `i` and `j` the one that starts first: everything is read, and then picked without a branch.
+fn next(
+    clients: &[u64],
+    starts: &[u32],
+    ends: &[u32],
+    i: usize,
+    b_clients: &[u64],
+    b_starts: &[u32],
+    b_ends: &[u32],
+    j: usize,
+) -> Taken
+    requires { ⌜ (i < room (three (now clients) (now starts) (now ends))) × (j < room (three (now «b_clients») (now «b_starts») (now «b_ends»))) ⌝ }
+    ensures { λ r. ⌜ Takes (now (clients .entry)) (now (starts .entry)) (now (ends .entry)) i (now («b_clients» .entry)) (now («b_starts» .entry)) (now («b_ends» .entry)) j r ⌝ }
+{
+    let c = clients[i];
+    let d = b_clients[j];
+    let x = starts[i];
+    let y = b_starts[j];
+    let second = precedes(d, y, c, x);
+    Taken {
+        i: pick_place(second, i, i + 1),
+        j: pick_place(second, j + 1, j),
+        client: pick_wide(second, d, c),
+        start: pick(second, y, x),
+        end: pick(second, b_ends[j], ends[i]),
+    }
+}
+
+fn store(out: &mut [u32], most: usize, k: usize, v: u32)
+    requires { ⌜ most ≤ length (now out) ⌝ }
+    ensures { λ r. ⌜ Stored most (now (out .entry)) k v (now (out .exit)) ⌝ }
+{
+    if k < most {
+        out[k] = v;
+    }
+}
+
+fn store_wide(out: &mut [u64], most: usize, k: usize, v: u64)
+    requires { ⌜ most ≤ length (now out) ⌝ }
+    ensures { λ r. ⌜ Stored most (now (out .entry)) k v (now (out .exit)) ⌝ }
+{
+    if k < most {
+        out[k] = v;
+    }
+}
+
+// Whether (lc, le), one more than an end, is at (c, x) or before.
+fn past(lc: u64, le: u64, c: u64, x: u32) -> bool
+    requires { ⌜ le ≤ 4294967296 ⌝ }
+    ensures { λ r. ⌜ Says (numberOf lc le ≤ numberOf c x) r ⌝ }
+{
+    (lc < c) | ((lc == c) & (le <= x as u64))
+}
+
+// One row more, where it starts past the last.
+fn counted(k: usize, lc: u64, le: u64, c: u64, x: u32) -> usize
+    requires { ⌜ (k ≤ 2 * rowLimit) × (le ≤ 4294967296) ⌝ }
+    ensures { λ r. ⌜ Counts k (numberOf lc le) (numberOf c x) r ⌝ }
+{
+    if past(lc, le, c, x) { k + 1 } else { k }
+}
+
+// One more than the larger end.
+fn further(lc: u64, le: u64, c: u64, y: u32) -> u64
+    requires { ⌜ (lc ≤ c) × (le ≤ 4294967296) ⌝ }
+    ensures { λ r. ⌜ Further lc le c y r ⌝ }
+{
+    let f = y as u64 + 1;
+    if (lc == c) & (f < le) { le } else { f }
+}
+
+// How many rows are put out, and one more than the end of the last.
+pub struct Added {
+    pub k: usize,
+    pub end: u64,
+}
+
+// One row more, which starts where the last of the `k` rows does or behind. What is stored and not counted is written over.
+fn join(
+    to_clients: &mut [u64],
+    to_starts: &mut [u32],
+    to_ends: &mut [u32],
+    most: usize,
+    k: usize,
+    lc: u64,
+    le: u64,
+    c: u64,
+    x: u32,
+    y: u32,
+) -> Added
+    requires { ⌜ most ≤ room (three (now «to_clients») (now «to_starts») (now «to_ends»)) ⌝ }
+    requires { ⌜ Open most (now «to_clients») (now «to_starts») (now «to_ends») k lc le ⌝ }
+    requires { ⌜ (k ≤ 2 * rowLimit) × (lc ≤ c) × (x < y) ⌝ }
+    ensures { λ r. ⌜ Joins most (now («to_clients» .entry)) (now («to_starts» .entry)) (now («to_ends» .entry)) k lc le c x y
+        (now («to_clients» .exit)) (now («to_starts» .exit)) (now («to_ends» .exit)) r ⌝ }
+{
+    store_wide(to_clients, most, k, c);
+    store(to_starts, most, k, x);
+    let r = counted(k, lc, le, c, x);
+    let f = further(lc, le, c, y);
+    store(to_ends, most, r - 1, (f - 1) as u32);
+    Added { k: r, end: f }
+}
+
+// The rows from `i0` on, where the other table has none left: whatever that was.
+fn rest(
+    clients: &[u64],
+    starts: &[u32],
+    ends: &[u32],
+    n: usize,
+    i0: usize,
+    to_clients: &mut [u64],
+    to_starts: &mut [u32],
+    to_ends: &mut [u32],
+    most: usize,
+    k0: usize,
+    c0: u64,
+    e0: u64,
+) -> usize
+    requires { ⌜ IdTable (now clients) (now starts) (now ends) n ⌝ }
+    requires { ⌜ most ≤ room (three (now «to_clients») (now «to_starts») (now «to_ends»)) ⌝ }
+    requires { ⌜ Tail most (now clients) (now starts) (now ends) n i0 (now «to_clients») (now «to_starts») (now «to_ends») k0 c0 e0 ⌝ }
+    ensures { λ r. ⌜ ((bc bs be : List ℕ) (m : ℕ) → IdTable bc bs be m
+        → United beyond (idRow (now (clients .entry)) (now (starts .entry)) (now (ends .entry))) n i0 (idRow bc bs be) m m most
+        (idRow (now («to_clients» .entry)) (now («to_starts» .entry)) (now («to_ends» .entry))) k0 (numberOf c0 e0)
+        → Holds most (idRow (now («to_clients» .exit)) (now («to_starts» .exit)) (now («to_ends» .exit))) r
+        (combined union (idRows (now (clients .entry)) (now (starts .entry)) (now (ends .entry)) n) (idRows bc bs be m))) ⌝ }
+{
+    let mut i = i0;
+    let mut k = k0;
+    let mut c = c0;
+    let mut e = e0;
+    while i < n {
+        let d = clients[i];
+        let a = join(
+            to_clients,
+            to_starts,
+            to_ends,
+            most,
+            k,
+            c,
+            e,
+            d,
+            starts[i],
+            ends[i],
+        );
+        i += 1;
+        k = a.k;
+        e = a.end;
+        c = d;
+    }
+    k
+}
+
+// The rows of the union of two tables, as many as there is room for, and how many there are.
+fn unite(
+    clients: &[u64],
+    starts: &[u32],
+    ends: &[u32],
+    n: usize,
+    b_clients: &[u64],
+    b_starts: &[u32],
+    b_ends: &[u32],
+    m: usize,
+    to_clients: &mut [u64],
+    to_starts: &mut [u32],
+    to_ends: &mut [u32],
+    most: usize,
+) -> usize
+    requires { ⌜ IdTable (now clients) (now starts) (now ends) n ⌝ }
+    requires { ⌜ IdTable (now «b_clients») (now «b_starts») (now «b_ends») m ⌝ }
+    requires { ⌜ most ≤ room (three (now «to_clients») (now «to_starts») (now «to_ends»)) ⌝ }
+    ensures { λ r. ⌜ Holds most (idRow (now («to_clients» .exit)) (now («to_starts» .exit)) (now («to_ends» .exit))) r
+        (combined union (idRows (now (clients .entry)) (now (starts .entry)) (now (ends .entry)) n)
+        (idRows (now («b_clients» .entry)) (now («b_starts» .entry)) (now («b_ends» .entry)) m)) ⌝ }
+{
+    let mut i: usize = 0;
+    let mut j: usize = 0;
+    let mut k: usize = 0;
+    let mut c: u64 = 0;
+    let mut e: u64 = 0;
+    while i < n {
+        if m <= j {
+            return rest(
+                clients,
+                starts,
+                ends,
+                n,
+                i,
+                to_clients,
+                to_starts,
+                to_ends,
+                most,
+                k,
+                c,
+                e,
+            );
+        }
+        let t = next(clients, starts, ends, i, b_clients, b_starts, b_ends, j);
+        let a = join(
+            to_clients,
+            to_starts,
+            to_ends,
+            most,
+            k,
+            c,
+            e,
+            t.client,
+            t.start,
+            t.end,
+        );
+        i = t.i;
+        j = t.j;
+        k = a.k;
+        e = a.end;
+        c = t.client;
+    }
+    rest(
+        b_clients,
+        b_starts,
+        b_ends,
+        m,
+        j,
+        to_clients,
+        to_starts,
+        to_ends,
+        most,
+        k,
+        c,
+        e,
+    )
+}
+
+// The union of two tables.
+pub fn merge(
+    clients: &[u64],
+    starts: &[u32],
+    ends: &[u32],
+    count: usize,
+    b_clients: &[u64],
+    b_starts: &[u32],
+    b_ends: &[u32],
+    b_count: usize,
+    to_clients: &mut [u64],
+    to_starts: &mut [u32],
+    to_ends: &mut [u32],
+) -> tables::Made
+    ensures { λ r. ⌜ Merged (held (now (clients .entry)) (now (starts .entry)) (now (ends .entry)) count)
+        (held (now («b_clients» .entry)) (now («b_starts» .entry)) (now («b_ends» .entry)) «b_count»)
+        (three (now («to_clients» .entry)) (now («to_starts» .entry)) (now («to_ends» .entry)))
+        (three (now («to_clients» .exit)) (now («to_starts» .exit)) (now («to_ends» .exit))) r ⌝ }
+{
+    if !both_formed(
+        clients,
+        starts,
+        ends,
+        count,
+        b_clients,
+        b_starts,
+        b_ends,
+        b_count,
+    ) {
+        trim(to_clients, to_starts, to_ends, 0);
+        return tables::Made::Refused(varint::Refusal::Malformed);
+    }
+    let most = most_rows(to_clients.len(), to_starts.len(), to_ends.len());
+    let k = unite(
+        clients,
+        starts,
+        ends,
+        count,
+        b_clients,
+        b_starts,
+        b_ends,
+        b_count,
+        to_clients,
+        to_starts,
+        to_ends,
+        most,
+    );
+    finish(to_clients, to_starts, to_ends, most, k)
+}
+
+// What a row shares with other places, and what is passed.
+pub struct Shared {
+    pub i: usize,
+    pub j: usize,
+    pub start: u32,
+    pub end: u32,
+    pub on: bool,
+}
+
+// What the row (c, x, e) shares with the places from (gc, gx) on that are before (hc, hx). What is shared is of client `c`.
+fn share(i: usize, j: usize, c: u64, x: u32, e: u32, gc: u64, gx: u32, hc: u64, hx: u32) -> Shared
+    requires { ⌜ (i ≤ rowLimit) × (j ≤ rowLimit) ⌝ }
+    ensures { λ r. ⌜ Shares (numberOf c x) (numberOf gc gx) (numberOf c e) (numberOf hc hx) i j c r ⌝ }
+{
+    let late = precedes(c, x, gc, gx);
+    let early = precedes(hc, hx, c, e);
+    let sooner = precedes(c, e, hc, hx);
+    let start = pick(late, gx, x);
+    let end = pick(early, hx, e);
+    Shared {
+        i: pick_place(early, i, i + 1),
+        j: pick_place(sooner, j, j + 1),
+        start,
+        end,
+        on: precedes(pick_wide(late, gc, c), start, pick_wide(early, hc, c), end),
+    }
+}
+
+// The row (c, x, y), which is counted if `on`, and else written over.
+fn keep(
+    to_clients: &mut [u64],
+    to_starts: &mut [u32],
+    to_ends: &mut [u32],
+    most: usize,
+    k: usize,
+    c: u64,
+    x: u32,
+    y: u32,
+    on: bool,
+) -> usize
+    requires { ⌜ most ≤ room (three (now «to_clients») (now «to_starts») (now «to_ends»)) ⌝ }
+    requires { ⌜ k ≤ 2 * rowLimit ⌝ }
+    ensures { λ r. ⌜ Puts most (now («to_clients» .entry)) (now («to_starts» .entry)) (now («to_ends» .entry)) k c x y on
+        (now («to_clients» .exit)) (now («to_starts» .exit)) (now («to_ends» .exit)) r ⌝ }
+{
+    store_wide(to_clients, most, k, c);
+    store(to_starts, most, k, x);
+    store(to_ends, most, k, y);
+    pick_place(on, k + 1, k)
+}
+
+// The rows of the intersection of two tables, as many as there is room for, and how many there are.
+fn cross(
+    clients: &[u64],
+    starts: &[u32],
+    ends: &[u32],
+    n: usize,
+    b_clients: &[u64],
+    b_starts: &[u32],
+    b_ends: &[u32],
+    m: usize,
+    to_clients: &mut [u64],
+    to_starts: &mut [u32],
+    to_ends: &mut [u32],
+    most: usize,
+) -> usize
+    requires { ⌜ IdTable (now clients) (now starts) (now ends) n ⌝ }
+    requires { ⌜ IdTable (now «b_clients») (now «b_starts») (now «b_ends») m ⌝ }
+    requires { ⌜ most ≤ room (three (now «to_clients») (now «to_starts») (now «to_ends»)) ⌝ }
+    ensures { λ r. ⌜ Holds most (idRow (now («to_clients» .exit)) (now («to_starts» .exit)) (now («to_ends» .exit))) r
+        (combined intersection (idRows (now (clients .entry)) (now (starts .entry)) (now (ends .entry)) n)
+        (idRows (now («b_clients» .entry)) (now («b_starts» .entry)) (now («b_ends» .entry)) m)) ⌝ }
+{
+    let mut i: usize = 0;
+    let mut j: usize = 0;
+    let mut k: usize = 0;
+    while i < n {
+        if m <= j {
+            return k;
+        }
+        let c = clients[i];
+        let d = b_clients[j];
+        let t = share(i, j, c, starts[i], ends[i], d, b_starts[j], d, b_ends[j]);
+        k = keep(
+            to_clients,
+            to_starts,
+            to_ends,
+            most,
+            k,
+            c,
+            t.start,
+            t.end,
+            t.on,
+        );
+        i = t.i;
+        j = t.j;
+    }
+    k
+}
+
+// A place among all ids: clients first, then clocks.
+pub struct Spot {
+    pub client: u64,
+    pub clock: u32,
+}
+
+// Where gap `j` of a table starts: gap 0 at the first place, any other behind the row before it.
+fn gap_start(clients: &[u64], starts: &[u32], ends: &[u32], j: usize) -> Spot
+    requires { ⌜ (j ≤ length (now clients)) × (j ≤ length (now ends)) ⌝ }
+    ensures { λ r. ⌜ GapStart (idRow (now (clients .entry)) (now (starts .entry)) (now (ends .entry))) j (numberOf (r .client) (r .clock)) ⌝ }
+{
+    if j == 0 {
+        return Spot {
+            client: 0,
+            clock: 0,
+        };
+    }
+    Spot {
+        client: clients[j - 1],
+        clock: ends[j - 1],
+    }
+}
+
+// Where gap `j` ends: before row `j`, and the gap behind the last row at the last place.
+fn gap_end(clients: &[u64], starts: &[u32], ends: &[u32], m: usize, j: usize) -> Spot
+    requires { ⌜ (m ≤ length (now clients)) × (m ≤ length (now starts)) ⌝ }
+    ensures { λ r. ⌜ GapEnd final (idRow (now (clients .entry)) (now (starts .entry)) (now (ends .entry))) m j (numberOf (r .client) (r .clock)) ⌝ }
+{
+    if m <= j {
+        return Spot {
+            client: 18446744073709551615,
+            clock: 4294967295,
+        };
+    }
+    Spot {
+        client: clients[j],
+        clock: starts[j],
+    }
+}
+
+// The rows of the difference of two tables, as many as there is room for, and how many there are: what the left table shares with the gaps of the right.
+fn differ(
+    clients: &[u64],
+    starts: &[u32],
+    ends: &[u32],
+    n: usize,
+    b_clients: &[u64],
+    b_starts: &[u32],
+    b_ends: &[u32],
+    m: usize,
+    to_clients: &mut [u64],
+    to_starts: &mut [u32],
+    to_ends: &mut [u32],
+    most: usize,
+) -> usize
+    requires { ⌜ IdTable (now clients) (now starts) (now ends) n ⌝ }
+    requires { ⌜ IdTable (now «b_clients») (now «b_starts») (now «b_ends») m ⌝ }
+    requires { ⌜ most ≤ room (three (now «to_clients») (now «to_starts») (now «to_ends»)) ⌝ }
+    ensures { λ r. ⌜ Holds most (idRow (now («to_clients» .exit)) (now («to_starts» .exit)) (now («to_ends» .exit))) r
+        (combined difference (idRows (now (clients .entry)) (now (starts .entry)) (now (ends .entry)) n)
+        (idRows (now («b_clients» .entry)) (now («b_starts» .entry)) (now («b_ends» .entry)) m)) ⌝ }
+{
+    let mut i: usize = 0;
+    let mut j: usize = 0;
+    let mut k: usize = 0;
+    while i < n {
+        let c = clients[i];
+        let g = gap_start(b_clients, b_starts, b_ends, j);
+        let h = gap_end(b_clients, b_starts, b_ends, m, j);
+        let t = share(
+            i,
+            j,
+            c,
+            starts[i],
+            ends[i],
+            g.client,
+            g.clock,
+            h.client,
+            h.clock,
+        );
+        k = keep(
+            to_clients,
+            to_starts,
+            to_ends,
+            most,
+            k,
+            c,
+            t.start,
+            t.end,
+            t.on,
+        );
+        i = t.i;
+        j = t.j;
+    }
+    k
+}
+
+// The difference of two tables.
+pub fn diff(
+    clients: &[u64],
+    starts: &[u32],
+    ends: &[u32],
+    count: usize,
+    b_clients: &[u64],
+    b_starts: &[u32],
+    b_ends: &[u32],
+    b_count: usize,
+    to_clients: &mut [u64],
+    to_starts: &mut [u32],
+    to_ends: &mut [u32],
+) -> tables::Made
+    ensures { λ r. ⌜ Diffed (held (now (clients .entry)) (now (starts .entry)) (now (ends .entry)) count)
+        (held (now («b_clients» .entry)) (now («b_starts» .entry)) (now («b_ends» .entry)) «b_count»)
+        (three (now («to_clients» .entry)) (now («to_starts» .entry)) (now («to_ends» .entry)))
+        (three (now («to_clients» .exit)) (now («to_starts» .exit)) (now («to_ends» .exit))) r ⌝ }
+{
+    if !both_formed(
+        clients,
+        starts,
+        ends,
+        count,
+        b_clients,
+        b_starts,
+        b_ends,
+        b_count,
+    ) {
+        trim(to_clients, to_starts, to_ends, 0);
+        return tables::Made::Refused(varint::Refusal::Malformed);
+    }
+    let most = most_rows(to_clients.len(), to_starts.len(), to_ends.len());
+    let k = differ(
+        clients,
+        starts,
+        ends,
+        count,
+        b_clients,
+        b_starts,
+        b_ends,
+        b_count,
+        to_clients,
+        to_starts,
+        to_ends,
+        most,
+    );
+    finish(to_clients, to_starts, to_ends, most, k)
+}
+
+// The intersection of two tables.
+pub fn intersect(
+    clients: &[u64],
+    starts: &[u32],
+    ends: &[u32],
+    count: usize,
+    b_clients: &[u64],
+    b_starts: &[u32],
+    b_ends: &[u32],
+    b_count: usize,
+    to_clients: &mut [u64],
+    to_starts: &mut [u32],
+    to_ends: &mut [u32],
+) -> tables::Made
+    ensures { λ r. ⌜ Intersected (held (now (clients .entry)) (now (starts .entry)) (now (ends .entry)) count)
+        (held (now («b_clients» .entry)) (now («b_starts» .entry)) (now («b_ends» .entry)) «b_count»)
+        (three (now («to_clients» .entry)) (now («to_starts» .entry)) (now («to_ends» .entry)))
+        (three (now («to_clients» .exit)) (now («to_starts» .exit)) (now («to_ends» .exit))) r ⌝ }
+{
+    if !both_formed(
+        clients,
+        starts,
+        ends,
+        count,
+        b_clients,
+        b_starts,
+        b_ends,
+        b_count,
+    ) {
+        trim(to_clients, to_starts, to_ends, 0);
+        return tables::Made::Refused(varint::Refusal::Malformed);
+    }
+    let most = most_rows(to_clients.len(), to_starts.len(), to_ends.len());
+    let k = cross(
+        clients,
+        starts,
+        ends,
+        count,
+        b_clients,
+        b_starts,
+        b_ends,
+        b_count,
+        to_clients,
+        to_starts,
+        to_ends,
+        most,
+    );
+    finish(to_clients, to_starts, to_ends, most, k)
+}
+
+// One range more; an empty range adds no row.
+pub fn insert_range(
+    clients: &[u64],
+    starts: &[u32],
+    ends: &[u32],
+    count: usize,
+    client: tables::Client,
+    start: tables::Clock,
+    end: tables::Clock,
+    to_clients: &mut [u64],
+    to_starts: &mut [u32],
+    to_ends: &mut [u32],
+) -> tables::Made
+    ensures { λ r. ⌜ Inserted (held (now (clients .entry)) (now (starts .entry)) (now (ends .entry)) count)
+        (row (client .0) (start .0) (end .0))
+        (three (now («to_clients» .entry)) (now («to_starts» .entry)) (now («to_ends» .entry)))
+        (three (now («to_clients» .exit)) (now («to_starts» .exit)) (now («to_ends» .exit))) r ⌝ }
+{
+    let c = client.0;
+    let s = start.0;
+    let e = end.0;
+    if e <= s {
+        return capture(clients, starts, ends, count, to_clients, to_starts, to_ends);
+    }
+    let cs = [c; 1];
+    let ss = [s; 1];
+    let es = [e; 1];
+    merge(
+        clients,
+        starts,
+        ends,
+        count,
+        &cs,
+        &ss,
+        &es,
+        1,
+        to_clients,
+        to_starts,
+        to_ends,
+    )
+}
+
+// Whether one of the rows lo, .., hi - 1 holds the id: each look halves the rows still possible.
+fn search(
+    clients: &[u64],
+    starts: &[u32],
+    ends: &[u32],
+    n: usize,
+    lo: usize,
+    hi: usize,
+    client: u64,
+    clock: u32,
+) -> bool
+    requires { ⌜ IdTable (now clients) (now starts) (now ends) n ⌝ }
+    requires { ⌜ hi ≤ n ⌝ }
+    ensures { λ r. ⌜ Says (0 < at (span (idRow (now (clients .entry)) (now (starts .entry)) (now (ends .entry))) lo (hi - lo)) (numberOf client clock)) r ⌝ }
+{
+    if hi <= lo {
+        return false;
+    }
+    let mid = (lo + (hi - 1)) / 2;
+    let c = clients[mid];
+    if precedes(client, clock, c, starts[mid]) {
+        return search(clients, starts, ends, n, lo, mid, client, clock);
+    }
+    if precedes(client, clock, c, ends[mid]) {
+        return true;
+    }
+    search(clients, starts, ends, n, mid + 1, hi, client, clock)
+}
+
+// Whether the table holds the clock of the client.
+pub fn contains(
+    clients: &[u64],
+    starts: &[u32],
+    ends: &[u32],
+    count: usize,
+    client: tables::Client,
+    clock: tables::Clock,
+) -> tables::Told
+    ensures { λ r. ⌜ Contains (held (now (clients .entry)) (now (starts .entry)) (now (ends .entry)) count) (client .0) (clock .0) r ⌝ }
+{
+    if !well_formed(clients, starts, ends, count) {
+        return tables::Told::Refused(varint::Refusal::Malformed);
+    }
+    let c = client.0;
+    let x = clock.0;
+    if search(clients, starts, ends, count, 0, count, c, x) {
+        return tables::Told::Yes;
+    }
+    tables::Told::No
+}
+
+// Whether the table has no row.
+pub fn is_empty(clients: &[u64], starts: &[u32], ends: &[u32], count: usize) -> tables::Told
+    ensures { λ r. ⌜ Empty (held (now (clients .entry)) (now (starts .entry)) (now (ends .entry)) count) r ⌝ }
+{
+    if !well_formed(clients, starts, ends, count) {
+        return tables::Told::Refused(varint::Refusal::Malformed);
+    }
+    if count == 0 {
+        return tables::Told::Yes;
+    }
+    tables::Told::No
+}
+
+// 1 where a client differs from the one before it.
+fn fresh(c: u64, d: u64) -> usize
+    ensures { λ r. ⌜ Fresh c d r ⌝ }
+{
+    if c == d { 0 } else { 1 }
+}
+
+// How many clients the first `n` rows have, counted from the last row on.
+fn count_clients(clients: &[u64], starts: &[u32], ends: &[u32], n: usize) -> usize
+    requires { ⌜ IdTable (now clients) (now starts) (now ends) n ⌝ }
+    ensures { λ r. ⌜ Clients (rowsOf n (now (clients .entry)) (now (starts .entry)) (now (ends .entry))) r ⌝ }
+{
+    if n == 0 {
+        return 0;
+    }
+    let mut many: usize = 1;
+    let mut i = n - 1;
+    while 0 < i {
+        let j = i - 1;
+        many = many + fresh(clients[j], clients[i]);
+        i = j;
+    }
+    many
+}
+
+// How many clients the table has.
+pub fn len(clients: &[u64], starts: &[u32], ends: &[u32], count: usize) -> tables::Counted
+    ensures { λ r. ⌜ Len (held (now (clients .entry)) (now (starts .entry)) (now (ends .entry)) count) r ⌝ }
+{
+    if !well_formed(clients, starts, ends, count) {
+        return tables::Counted::Refused(varint::Refusal::Malformed);
+    }
+    tables::Counted::Is(count_clients(clients, starts, ends, count))
+}

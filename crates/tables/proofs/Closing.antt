@@ -13,7 +13,7 @@ use Rattle.tables.proofs.Spanning.{length-span, span-same}
 use Rattle.tables.proofs.Pushing.{row-is}
 
 -- every row is a unit row
-pub Units : Rows → Type 0
+unfoldable pub Units : Rows → Type 0
 Units [] = Unit
 Units (r ∷ rs) = (r .weight ≡ 1) × Units rs
 
@@ -49,7 +49,7 @@ next-follows row i k j u h p b a ih (inl l) = (
 )
 
 -- joined unit rows follow each other
-joined-follows : (lo w : ℕ) (row : ℕ → Row) (i k : ℕ) → ((j : ℕ) → row j .weight ≡ 1) → JoinedFrom lo w (span row i k)
+pub joined-follows : (lo w : ℕ) (row : ℕ → Row) (i k : ℕ) → ((j : ℕ) → row j .weight ≡ 1) → JoinedFrom lo w (span row i k)
     → (j : ℕ) → i ≤ j → j < i + k → (row j .start < row j .end) × (i < j → row (j - 1) .end < row j .start)
 unfolding span JoinedFrom
 joined-follows lo w row i zero u p j a b = absurd (omega arith)

@@ -1,4 +1,4 @@
--- A table has a row for each number at which a weight begins; so a union of n and m unit rows has at most n + m rows. Assumes nothing.
+-- A table has a row for each number at which a weight begins; so a union, and a difference, of n and m unit rows has at most n + m rows. Assumes nothing.
 use mathlib.Core.Logic.{_⊎_, inl, inr, ⊎-elim}
 use mathlib.Core.Path.{_≡_, refl, ap, ap₂, sym, subst, _∙_}
 use mathlib.Core.List.{List, [], _∷_}
@@ -9,7 +9,7 @@ use mathlib.Core.Bool.{Bool, true, false, cond}
 use lib.Dec.{eqb}
 use borrow.Author.Tests.{eq-eqb, ne-eqb}
 use lib.ListN.{length}
-use Rattle.tables.specs.Inner.Rows.{Row, Rows, at, JoinedFrom, Joined, push, put, tabulate, top, combined, union}
+use Rattle.tables.specs.Inner.Rows.{Row, Rows, at, JoinedFrom, Joined, push, put, tabulate, top, combined, union, difference}
 use Rattle.tables.proofs.Joining.{split, at-here, at-past, at-top, pushed, Pushed, grown, added, Built, built, built-unique, unique}
 
 same? : (a b : ℕ) → (a ≡ b) ⊎ (a ≡ b → ⊥)
@@ -131,4 +131,64 @@ union-rows a b j k u v =
       length-joined a (max (top a) (top b)) j (omega arith),
       length-joined b (max (top a) (top b)) k (omega arith),
       count-sum (at a) (at b) (λ x. union (at a x) (at b x)) (max (top a) (top b)) (begin-union (at a) (at b) u v),
+    )
+
+-- ## A difference begins where the left table does, or behind a row of the right one
+
+-- 1 where a weight of 1 has ended
+stop : (ℕ → ℕ) → ℕ → ℕ
+stop m zero = 0
+stop m (suc x) = m x - m (suc x)
+
+stops : (ℕ → ℕ) → ℕ → ℕ
+stops m zero = 0
+stops m (suc n) = stops m n + stop m n
+
+-- what has ended has begun
+stops-begun : (m : ℕ → ℕ) → ((x : ℕ) → m x ≤ 1) → (n : ℕ) → stops m (suc n) + m n ≡ count m (suc n)
+unfolding stops stop count begin
+stops-begun m u zero = omega (arith, u 0)
+stops-begun m u (suc n) =
+    ⊎-elim (λ k. omega (arith, stops-begun m u n, begin-same m n k)) (λ k. omega (arith, stops-begun m u n, begin-other m n k, u n, u (suc n), k)) (same? (m n) (m (suc n)))
+
+stops-few : (m : ℕ → ℕ) → ((x : ℕ) → m x ≤ 1) → (n : ℕ) → stops m n ≤ count m n
+unfolding stops
+stops-few m u zero = omega arith
+stops-few m u (suc n) = omega (arith, stops-begun m u n)
+
+difference-is : (v w : ℕ) → v ≤ 1 → w ≤ 1 → difference v w ≡ v - w
+unfolding difference
+difference-is v zero a b = omega arith
+difference-is v (suc w) a b = omega arith
+
+begin-difference : (a b : ℕ → ℕ) → ((x : ℕ) → a x ≤ 1) → ((x : ℕ) → b x ≤ 1) → (x : ℕ) → begin (λ y. difference (a y) (b y)) x ≤ begin a x + stop b x
+unfolding begin stop
+begin-difference a b u v zero = omega (arith, difference-is (a 0) (b 0) (u 0) (v 0))
+begin-difference a b u v (suc x) =
+    ⊎-elim (λ k. omega (arith, begin-same (λ y. difference (a y) (b y)) x k)) (λ k. go k (same? (a x) (a (suc x))))
+    (same? (difference (a x) (b x)) (difference (a (suc x)) (b (suc x))))
+  where
+    d : ℕ → ℕ
+    d y = difference (a y) (b y)
+
+    go : (d x ≡ d (suc x) → ⊥) → (a x ≡ a (suc x)) ⊎ (a x ≡ a (suc x) → ⊥) → begin d (suc x) ≤ begin a (suc x) + stop b (suc x)
+    go k (inl p) = omega (arith, begin-other d x k, begin-same a x p, difference-is (a x) (b x) (u x) (v x), difference-is (a (suc x)) (b (suc x)) (u (suc x)) (v (suc x)), u x, v x, v (suc x), k)
+    go k (inr p) = omega (arith, begin-other d x k, begin-other a x p, difference-is (a (suc x)) (b (suc x)) (u (suc x)) (v (suc x)), u (suc x))
+
+count-stops : (a b c : ℕ → ℕ) (n : ℕ) → ((x : ℕ) → begin c x ≤ begin a x + stop b x) → count c n ≤ count a n + stops b n
+unfolding count stops
+count-stops a b c zero h = omega arith
+count-stops a b c (suc n) h = omega (arith, h n, count-stops a b c n h)
+
+-- document 01: a difference of tables with n and m rows has at most n + m rows
+pub difference-rows : (a b : Rows) → Joined a → Joined b → ((x : ℕ) → at a x ≤ 1) → ((x : ℕ) → at b x ≤ 1) → length (combined difference a b) ≤ length a + length b
+unfolding combined
+difference-rows a b j k u v =
+    omega (
+      arith,
+      length-tabulate (λ x. difference (at a x) (at b x)) (max (top a) (top b)),
+      length-joined a (max (top a) (top b)) j (omega arith),
+      length-joined b (max (top a) (top b)) k (omega arith),
+      count-stops (at a) (at b) (λ x. difference (at a x) (at b x)) (max (top a) (top b)) (begin-difference (at a) (at b) u v),
+      stops-few (at b) v (max (top a) (top b)),
     )

@@ -31,12 +31,12 @@ moves p q y i i′ j j′ l a b =
     two = ⊎-elim (λ h. omega (arith, b .off h)) (λ h. omega (arith, b .on h)) (split y q)
 
 module _ (row : ℕ → Row) (n : ℕ) (u : (j : ℕ) → row j .weight ≡ 1) (f : (j : ℕ) → j < n → Links row j) where
-  gap : (i c : ℕ) → i < n → Place row n i c → (z : ℕ) → c ≤ z → z < row i .start → at (span row 0 n) z ≡ 0
+  pub gap : (i c : ℕ) → i < n → Place row n i c → (z : ℕ) → c ≤ z → z < row i .start → at (span row 0 n) z ≡ 0
   gap i c h r z a b =
       r .reached .rest z a
       ∙ at-below (row i .start) 0 (span row i (n - i)) (spanned row (row i .start) 0 i (n - i) (λ j p q. f j (omega arith)) (λ _. omega arith) (λ _ _ e. omega (arith, f i h .weighty))) b
 
-  place-on : (i c y i′ : ℕ) → i < n → c ≤ y → y ≤ row i .end → Place row n i c → Passed (row i .end) y i i′ → Place row n i′ y
+  pub place-on : (i c y i′ : ℕ) → i < n → c ≤ y → y ≤ row i .end → Place row n i c → Passed (row i .end) y i i′ → Place row n i′ y
   place-on i c y i′ h a b p q = ⊎-elim
       (λ o. subst (λ (v : ℕ). Place row n v y) (sym (q .off o)) (pass-none row n i y reached (λ _ e. omega arith)))
       (λ o. subst (λ (v : ℕ). Place row n v y) (sym (q .on o)) (pass-row row n i y h f reached (omega arith)))
@@ -46,7 +46,7 @@ module _ (row : ℕ → Row) (n : ℕ) (u : (j : ℕ) → row j .weight ≡ 1) (
       reached = record { within = p .reached .within; rest = λ z d. p .reached .rest z (omega arith); unpassed = λ _. b }
 
   -- behind a row that is passed there is a gap
-  starts-on : (i y i′ : ℕ) → y ≡ row i .end → Passed (row i .end) y i i′ → i′ < n → y < row i′ .start
+  pub starts-on : (i y i′ : ℕ) → y ≡ row i .end → Passed (row i .end) y i i′ → i′ < n → y < row i′ .start
   starts-on i y i′ e q h =
       let z : suc i ≡ i′ = omega (arith, q .on (omega arith)) in
       let d : row i .end ≡ row i′ .start → ⊥ = λ g. f i′ h .differs i z g (u i ∙ sym (u i′)) in

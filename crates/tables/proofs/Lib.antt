@@ -11,5 +11,12 @@ pub mod Pushing
 pub mod Sweeping
 pub mod Finding
 pub mod Uniting
+pub mod Taking
 pub mod Crossing
 pub mod Zeroing
+pub mod Sets
+pub mod Differing
+pub mod Laying
+pub mod Inserting
+pub mod Placing
+pub mod Viewing

@@ -1,4 +1,4 @@
--- The combination of two tables is the one joined table with the combined weights; document 01's rows to try. Assumes nothing.
+-- The combination of two tables is the one joined table with the combined weights. Assumes nothing.
 use mathlib.Core.Logic.{_⊎_, inl, inr, ⊎-elim}
 use mathlib.Core.Path.{_≡_, refl, ap₂, sym, _∙_}
 use mathlib.Core.List.{List, [], _∷_}
@@ -25,20 +25,3 @@ combined-at f z a b x = go (split x (max (top a) (top b)))
 
 pub combined-only : (f : ℕ → ℕ → ℕ) → f 0 0 ≡ 0 → (a b rs : Rows) → Joined rs → ((x : ℕ) → at rs x ≡ f (at a x) (at b x)) → rs ≡ combined f a b
 combined-only f z a b rs j h = unique 0 0 rs (combined f a b) j (combined-joined f a b) (λ x. h x ∙ sym (combined-at f z a b x))
-
--- ## Rows to try
-
-abbrev r : ℕ → ℕ → Row
-r s e = record { start = s; end = e; weight = 1 }
-
-record ToTry : Type 0 where
-  insert₁ : combined union (r 2 5 ∷ r 9 10 ∷ []) (r 5 7 ∷ []) ≡ r 2 7 ∷ r 9 10 ∷ []
-  insert₂ : combined union (r 2 5 ∷ r 9 10 ∷ []) (r 4 9 ∷ []) ≡ r 2 10 ∷ []
-  remove : combined difference (r 2 5 ∷ []) (r 3 4 ∷ []) ≡ r 2 3 ∷ r 4 5 ∷ []
-  merge : combined union (r 0 3 ∷ r 8 9 ∷ []) (r 3 8 ∷ []) ≡ r 0 9 ∷ []
-  exclude : combined difference (r 0 10 ∷ []) (r 2 4 ∷ r 6 12 ∷ []) ≡ r 0 2 ∷ r 4 6 ∷ []
-  intersect : combined intersection (r 0 5 ∷ r 7 12 ∷ []) (r 3 8 ∷ []) ≡ r 3 5 ∷ r 7 8 ∷ []
-
-to-try : ToTry
-unfolding combined tabulate put push at top union difference intersection
-to-try = record { insert₁ = refl; insert₂ = refl; remove = refl; merge = refl; exclude = refl; intersect = refl }

@@ -3,3 +3,5 @@ pub mod Rows
 pub mod Sweep
 pub mod Unite
 pub mod Cross
+pub mod Differ
+pub mod Edit

@@ -1,0 +1,62 @@
+-- Each of the wrong desks of specs/Wrong.antt is excluded: by a run in which a desk lacks an id that reached it, or refuses what it has room for.
+use mathlib.Core.Path.{_≡_, refl, _∙_, ap}
+use mathlib.Core.Logic.{inl, inr}
+use mathlib.Core.List.{List, [], _∷_}
+use Prim.Native.Nat.{ℕ}
+use native.Mathlib.Omega.{arith}
+use lib.Dec.{lit<, lit≤}
+use lib.ListN.{length}
+use Rattle.varint.specs.declared.Refusal.the-variants.{Full}
+use Rattle.tables.specs.declared.Made.the-variants.{Rows, Refused}
+use Rattle.ids.specs.Rows.{Row, row, Holds}
+use Rattle.ids.specs.Tables.{Held, rows}
+use Rattle.desks.specs.Runs.{Place, desk, message, put, Event, insert, capture, merge, Run}
+use Rattle.desks.specs.Demand.{Demand, Answers, fitting}
+use Rattle.desks.specs.Wrong.{left-back, acknowledging, refusing}
+use Rattle.ids.proofs.Unique.{table-one}
+use Rattle.desks.proofs.Example.{lent, empty, one, one-of, second-insert, copied, copied-none, first-merge, w2, sending, sent}
+
+-- Desk 1 merges message 0 and gets its own empty table back: it lacks clock 0.
+abbrev w3 : Place → Held
+w3 = put w2 (desk 1) empty
+
+pub left-back-excluded : Demand left-back → ⊥
+left-back-excluded d = d (merge 1 0 (Rows 0) ∷ sending) w3 (w2, sent (left-back .merged), (lent 0 0, lent 0 0, copied-none, refl)) 1 .ids 7 0 .1 (inl (refl, lit≤ tt, lit< tt))
+
+-- Desk 0 inserts 0..2 as well, and message 1 is captured. Desk 1 merges message 0, and acknowledges message 1: it lacks clock 1.
+abbrev v3 : Place → Held
+v3 = put w2 (desk 0) (one 2)
+
+abbrev v4 : Place → Held
+v4 = put v3 (message 1) (one 2)
+
+abbrev v5 : Place → Held
+v5 = put v4 (desk 1) (one 1)
+
+abbrev v6 : Place → Held
+v6 = put v5 (desk 1) (one 1)
+
+abbrev twice : List Event
+twice = merge 1 0 (Rows 1) ∷ capture 0 1 (Rows 1) ∷ insert 0 (row 7 0 2) (Rows 1) ∷ sending
+
+merged-first : Run acknowledging twice v5
+merged-first =
+    (v4, (v3, (w2, sent (acknowledging .merged), (lent 0 0, lent 7 2, second-insert, refl)), (lent 0 0, lent 7 2, copied 2 (lit< tt), refl)), (lent 0 0, lent 7 1, first-merge, refl))
+
+lacks : Holds (rows (one 1)) 7 1 → ⊥
+lacks (inl h) = omega arith
+lacks (inr h) = absurd h
+
+pub acknowledging-excluded : Demand acknowledging → ⊥
+acknowledging-excluded d =
+    lacks (d (merge 1 1 (Rows 1) ∷ twice) v6 (v5, merged-first, (lent 0 0, lent 7 1, copied 1 (lit< tt), refl)) 1 .ids 7 1 .1 (inl (refl, lit≤ tt, lit< tt)))
+
+-- Desk 1 has room for the one row of message 0, and says FULL.
+not-full : (n : ℕ) → Refused Full ≡ Rows n → ⊥
+not-full n e = let z : _≡_ {A = ℕ} 0 1 = cc in omega arith
+
+pub refusing-excluded : Answers refusing → ⊥
+refusing-excluded a =
+    let b = a sending w2 (sent (refusing .merged)) (merge 1 0 (Refused Full)) (lent 0 0) (lent 0 0) (refl, refl) in
+    let e : b .0 ≡ row 7 0 1 ∷ [] = table-one (b .0) (row 7 0 1 ∷ []) (b .1) (one-of 1 (lit< tt)) in
+    not-full 1 (b .2 ∙ ap (λ (t : List Row). fitting (length t) 1) e)

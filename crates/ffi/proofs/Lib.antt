@@ -1,0 +1,3 @@
+-- Laws of the C boundary.
+pub mod Crossing
+pub mod Answering

@@ -1,0 +1,16 @@
+-- `ffi::iz_read_u8` meets its contract: the laws of the boundary answer each need. Assumes nothing.
+use Rattle.ffi.proofs.Crossing.{reading}
+use Rattle.ffi.proofs.iz_read_u8.Statement.{statement}
+use Rattle.ffi.proofs.iz_read_u8.Tie as tie
+
+pub iz-read-u8-spec : {M : Type 1} → statement M
+iz-read-u8-spec =
+    tie.close
+    (tie.spec
+    (λ c κs. search reading)
+    (λ c. search reading)
+    (λ c. search reading)
+    (λ c. search reading)
+    (λ c κs. search reading)
+    (λ c. search reading)
+    (λ c. search reading))

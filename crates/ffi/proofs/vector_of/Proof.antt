@@ -1,0 +1,14 @@
+-- `ffi::vector_of` meets its contract: the laws of the boundary answer each need. Assumes nothing.
+use Rattle.ffi.proofs.Answering.{answering}
+use Rattle.ffi.proofs.vector_of.Statement.{statement}
+use Rattle.ffi.proofs.vector_of.Tie as tie
+
+pub vector-of-spec : {M : Type 1} → statement M
+vector-of-spec =
+    tie.close
+    (tie.spec
+    (λ c. search answering)
+    (λ c. search answering)
+    (λ c κs. search answering)
+    (λ c. search answering)
+    (λ c. search answering))

@@ -1,0 +1,20 @@
+-- `ffi::verdict_of` meets its contract: the laws of the boundary answer each need. Assumes nothing.
+use Rattle.ffi.proofs.Answering.{answering}
+use Rattle.ffi.proofs.verdict_of.Statement.{statement}
+use Rattle.ffi.proofs.verdict_of.Tie as tie
+
+pub verdict-of-spec : {M : Type 1} → statement M
+verdict-of-spec =
+    tie.close
+    (tie.spec
+    (λ c. search answering)
+    (λ c. search answering)
+    (λ c. search answering)
+    (λ c. search answering)
+    (λ c. search answering)
+    (λ c κs. search answering)
+    (λ c. search answering)
+    (λ c. search answering)
+    (λ c. search answering)
+    (λ c. search answering)
+    (λ c. search answering))

@@ -1,0 +1,23 @@
+use native.Mathlib.Omega.{arith}
+use mathlib.Core.Path.{refl}
+use borrow.Author.Needs.{needs}
+use Rattle.ids.proofs.counted.Statement.{statement}
+use Rattle.ids.proofs.counted.Tie as tie
+use Rattle.ids.proofs.counted.Reads as reads
+use Rattle.ids.proofs.counted.Lts as lts
+use Rattle.ids.proofs.past.Reads as past-reads
+
+past-requires : tie.Need-past-requires
+past-requires c κs = search needs
+
+add-result : tie.Need-add-result
+add-result c = search needs
+
+returns : tie.Need-returns
+returns c = record { on = λ _. refl; off = λ h. absurd (omega (arith, c .before .past .ensures .right (c .if1 .taken))) }
+
+returns-2 : tie.Need-returns-2
+returns-2 c = record { on = λ h. absurd (c .before .past .ensures .wrong (c .if1 .left) h); off = λ _. refl }
+
+pub counted-spec : {M : Type 1} → statement M
+counted-spec = tie.close (tie.spec past-requires add-result returns returns-2)

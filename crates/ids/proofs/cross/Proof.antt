@@ -1,0 +1,137 @@
+-- The invariant: what was put out is the intersection up to some place. Assumes nothing.
+use native.Mathlib.Omega.{arith}
+use lib.ListN.{length}
+use mathlib.Core.Path.{_≡_, refl, _∙_}
+use Prim.Native.Nat.{_+_, _-_}
+use Rattle.tables.proofs.Uniting.{less-left}
+use Rattle.tables.proofs.Crossing.{Crossing, crossed-none, crossed-left, crossed-right, moves}
+use Rattle.ids.specs.Inner.{idRow}
+use Rattle.ids.proofs.Numbering.{links}
+use Rattle.ids.proofs.Sharing.{crossing-more}
+use borrow.Author.Needs.{needs}
+use Rattle.ids.proofs.cross.Statement.{statement}
+use Rattle.ids.proofs.cross.Tie as tie
+use Rattle.ids.proofs.cross.Reads as reads
+use Rattle.ids.proofs.cross.Lts as lts
+use Rattle.ids.proofs.keep.Reads as keep-reads
+use Rattle.ids.proofs.share.Reads as share-reads
+
+abbrev Inv-loop : tie.InvT-loop
+Inv-loop clients starts ends n b-clients b-starts b-ends m to-clients₀ to-starts₀ to-ends₀ most i₀ j₀ k₀ to-clients to-starts to-ends i j k =
+    (length to-clients ≡ length to-clients₀) × (length to-starts ≡ length to-starts₀) × (length to-ends ≡ length to-ends₀)
+    × Crossing (idRow clients starts ends) n i (idRow b-clients b-starts b-ends) m j most (idRow to-clients to-starts to-ends) k
+
+abbrev μ-loop : tie.MeasureT-loop
+μ-loop clients starts ends n b-clients b-starts b-ends m to-clients₀ to-starts₀ to-ends₀ most i₀ j₀ k₀ to-clients to-starts to-ends i j k = (n + m) - (i + j)
+
+loop-holds : tie.Need-loop-holds Inv-loop μ-loop
+loop-holds c = (refl, refl, refl, record { place = 0; crossed = crossed-none _ _ _ _ _ (λ _. refl) (λ _. refl) (links _ _ _ _ (c .before .before .before .before .before .before .before .before .before .pre .0)) (links _ _ _ _ (c .before .before .before .before .before .before .before .before .before .pre .1 .0)) _ })
+
+same-length : tie.Need-same-length Inv-loop μ-loop
+same-length c = c .before .before .loop .inv .0
+
+same-length-2 : tie.Need-same-length-2 Inv-loop μ-loop
+same-length-2 c = c .before .before .loop .inv .1
+
+same-length-3 : tie.Need-same-length-3 Inv-loop μ-loop
+same-length-3 c = c .before .before .loop .inv .2
+
+returns : tie.Need-returns Inv-loop μ-loop
+returns c = crossed-right _ _ _ _ _ (λ _. refl) (λ _. refl) (links _ _ _ _ (c .before .before .before .before .before .before .before .before .before .before .before .before .pre .0)) (links _ _ _ _ (c .before .before .before .before .before .before .before .before .before .before .before .before .pre .1 .0)) _ _ _ _ _ (c .if1 .taken) (c .before .before .loop .inv .3 .crossed)
+
+mul-c : tie.Need-mul-c Inv-loop μ-loop
+mul-c c = search needs
+
+shared-slice-read-c : tie.Need-shared-slice-read-c Inv-loop μ-loop
+shared-slice-read-c c = search needs
+
+mul-d : tie.Need-mul-d Inv-loop μ-loop
+mul-d c = search needs
+
+shared-slice-read-d : tie.Need-shared-slice-read-d Inv-loop μ-loop
+shared-slice-read-d c = search needs
+
+mul-share : tie.Need-mul-share Inv-loop μ-loop
+mul-share c = search needs
+
+shared-slice-read-share : tie.Need-shared-slice-read-share Inv-loop μ-loop
+shared-slice-read-share c = search needs
+
+mul-share-2 : tie.Need-mul-share-2 Inv-loop μ-loop
+mul-share-2 c = search needs
+
+shared-slice-read-share-2 : tie.Need-shared-slice-read-share-2 Inv-loop μ-loop
+shared-slice-read-share-2 c = search needs
+
+mul-share-3 : tie.Need-mul-share-3 Inv-loop μ-loop
+mul-share-3 c = search needs
+
+shared-slice-read-share-3 : tie.Need-shared-slice-read-share-3 Inv-loop μ-loop
+shared-slice-read-share-3 c = search needs
+
+mul-share-4 : tie.Need-mul-share-4 Inv-loop μ-loop
+mul-share-4 c = search needs
+
+shared-slice-read-share-4 : tie.Need-shared-slice-read-share-4 Inv-loop μ-loop
+shared-slice-read-share-4 c = search needs
+
+share-requires : tie.Need-share-requires Inv-loop μ-loop
+share-requires c κs = (omega (arith, c .before .before .before .before .before .before .before .before .before .before .before .before .before .before .before .before .before .before .pre .0 .few, c .before .before .before .before .before .before .before .loop-test .taken), omega (arith, c .before .before .before .before .before .before .before .before .before .before .before .before .before .before .before .before .before .before .pre .1 .0 .few, c .before .before .before .before .before .before .if1 .left))
+
+keep-requires : tie.Need-keep-requires Inv-loop μ-loop
+keep-requires c κs = (omega (arith, c .before .before .before .before .before .before .before .before .before .before .before .before .loop .inv .0, c .before .before .before .before .before .before .before .before .before .before .before .before .loop .inv .1, c .before .before .before .before .before .before .before .before .before .before .before .before .loop .inv .2, c .before .before .before .before .before .before .before .before .before .before .before .before .before .before .before .before .before .before .before .before .before .before .pre .1 .1), omega (arith, c .before .before .before .before .before .before .before .before .before .before .before .before .loop .inv .3 .crossed .few, c .before .before .before .before .before .before .before .before .before .before .before .before .before .before .before .before .before .before .before .before .before .before .pre .0 .few, c .before .before .before .before .before .before .before .before .before .before .before .before .before .before .before .before .before .before .before .before .before .before .pre .1 .0 .few, c .before .before .before .before .before .before .before .before .before .before .before .loop-test .taken, c .before .before .before .before .before .before .before .before .before .before .if1 .left))
+
+loop-less : tie.Need-loop-less Inv-loop μ-loop
+loop-less c = less-left _ _ _ _ _ _ (c .before .before .before .before .before .before .before .before .before .before .before .before .before .before .before .before .before .before .before .loop .inv .3 .crossed .one .reached .within) (c .before .before .before .before .before .before .before .before .before .before .before .before .before .before .before .before .before .before .before .loop .inv .3 .crossed .two .reached .within) (c .before .before .before .before .before .before .before .before .before .before .before .before .before .before .before .before .before .before .loop-test .taken) (moves _ _ _ _ _ _ _ refl (c .before .before .before .before .before .before .before .before .before .before .share .ensures .one) (c .before .before .before .before .before .before .before .before .before .before .share .ensures .two))
+
+loop-again : tie.Need-loop-again Inv-loop μ-loop
+loop-again c = (
+  c .before .before .before .before .before .before .keep .kept .0 ∙ c .before .before .before .before .before .before .before .before .before .before .before .before .before .before .before .before .before .before .before .loop .inv .0,
+  c .before .before .before .before .before .before .keep .kept .1 .0 ∙ c .before .before .before .before .before .before .before .before .before .before .before .before .before .before .before .before .before .before .before .loop .inv .1,
+  c .before .before .before .before .before .before .keep .kept .1 .1 .0 ∙ c .before .before .before .before .before .before .before .before .before .before .before .before .before .before .before .before .before .before .before .loop .inv .2,
+  crossing-more _ _ _ _ _ (c .before .before .before .before .before .before .before .before .before .before .before .before .before .before .before .before .before .before .before .before .before .before .before .before .before .before .before .before .before .pre .0) _ _ _ _ (c .before .before .before .before .before .before .before .before .before .before .before .before .before .before .before .before .before .before .before .before .before .before .before .before .before .before .before .before .before .pre .1 .0) _ _ (c .before .before .before .before .before .before .before .before .before .before .before .before .before .before .before .before .before .before .loop-test .taken) (c .before .before .before .before .before .before .before .before .before .before .before .before .before .before .before .before .before .if1 .left) _ _ _ _ _ _ _ _ _ (c .before .before .before .before .before .before .before .before .before .before .share .ensures) (c .before .before .before .before .before .before .keep .ensures) (c .before .before .before .before .before .before .before .before .before .before .before .before .before .before .before .before .before .before .before .loop .inv .3),
+)
+
+same-length-4 : tie.Need-same-length-4 Inv-loop μ-loop
+same-length-4 c = c .before .loop .inv .0
+
+same-length-5 : tie.Need-same-length-5 Inv-loop μ-loop
+same-length-5 c = c .before .loop .inv .1
+
+same-length-6 : tie.Need-same-length-6 Inv-loop μ-loop
+same-length-6 c = c .before .loop .inv .2
+
+returns-2 : tie.Need-returns-2 Inv-loop μ-loop
+returns-2 c = crossed-left _ _ _ _ _ (λ _. refl) (λ _. refl) (links _ _ _ _ (c .before .before .before .before .before .before .before .before .before .before .before .pre .0)) (links _ _ _ _ (c .before .before .before .before .before .before .before .before .before .before .before .pre .1 .0)) _ _ _ _ _ (c .loop-test .left) (c .before .loop .inv .3 .crossed)
+
+pub cross-spec : {M : Type 1} → statement M
+cross-spec =
+    tie.close
+    (tie.spec
+    Inv-loop
+    μ-loop
+    loop-holds
+    same-length
+    same-length-2
+    same-length-3
+    returns
+    mul-c
+    shared-slice-read-c
+    mul-d
+    shared-slice-read-d
+    mul-share
+    shared-slice-read-share
+    mul-share-2
+    shared-slice-read-share-2
+    mul-share-3
+    shared-slice-read-share-3
+    mul-share-4
+    shared-slice-read-share-4
+    share-requires
+    keep-requires
+    loop-less
+    loop-again
+    same-length-4
+    same-length-5
+    same-length-6
+    returns-2)

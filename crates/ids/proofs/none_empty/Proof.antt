@@ -1,0 +1,59 @@
+-- The invariant: each row passed was tested. Assumes nothing.
+use native.Mathlib.Omega.{arith}
+use Prim.Native.Nat.{_≤_, _-_}
+use Rattle.ids.specs.Inner.{NoneEmpty}
+use Rattle.ids.proofs.Checking.{Tested, tested-none, tested-more, tested-all, less-says}
+use borrow.Author.Needs.{needs}
+use Rattle.ids.proofs.none_empty.Statement.{statement}
+use Rattle.ids.proofs.none_empty.Tie as tie
+use Rattle.ids.proofs.none_empty.Reads as reads
+use Rattle.ids.proofs.none_empty.Lts as lts
+
+abbrev Inv-loop : tie.InvT-loop
+Inv-loop starts ends n ok₀ i₀ ok i = (i ≤ n) × Tested (NoneEmpty starts ends) i ok
+
+abbrev μ-loop : tie.MeasureT-loop
+μ-loop starts ends n ok₀ i₀ ok i = n - i
+
+loop-holds : tie.Need-loop-holds Inv-loop μ-loop
+loop-holds c = (omega arith, tested-none _)
+
+mul-ok : tie.Need-mul-ok Inv-loop μ-loop
+mul-ok c = search needs
+
+shared-slice-read-ok : tie.Need-shared-slice-read-ok Inv-loop μ-loop
+shared-slice-read-ok c = search needs
+
+mul-ok-2 : tie.Need-mul-ok-2 Inv-loop μ-loop
+mul-ok-2 c = search needs
+
+shared-slice-read-ok-2 : tie.Need-shared-slice-read-ok-2 Inv-loop μ-loop
+shared-slice-read-ok-2 c = search needs
+
+add-i : tie.Need-add-i Inv-loop μ-loop
+add-i c = search needs
+
+loop-less : tie.Need-loop-less Inv-loop μ-loop
+loop-less c = search needs
+
+loop-again : tie.Need-loop-again Inv-loop μ-loop
+loop-again c = (omega arith, tested-more _ _ (c .before .before .before .loop .inv .1) (less-says _ _))
+
+returns : tie.Need-returns Inv-loop μ-loop
+returns c = tested-all (c .before .loop .inv .1) (omega arith) (omega arith)
+
+pub none-empty-spec : {M : Type 1} → statement M
+none-empty-spec =
+    tie.close
+    (tie.spec
+    Inv-loop
+    μ-loop
+    loop-holds
+    mul-ok
+    shared-slice-read-ok
+    mul-ok-2
+    shared-slice-read-ok-2
+    add-i
+    loop-less
+    loop-again
+    returns)

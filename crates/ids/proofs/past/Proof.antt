@@ -1,0 +1,13 @@
+use native.Mathlib.Omega.{arith}
+use Rattle.ids.proofs.Checking.{past-says}
+use borrow.Author.Needs.{needs}
+use Rattle.ids.proofs.past.Statement.{statement}
+use Rattle.ids.proofs.past.Tie as tie
+use Rattle.ids.proofs.past.Reads as reads
+use Rattle.ids.proofs.past.Lts as lts
+
+returns : tie.Need-returns
+returns c = past-says _ _ _ _ (omega arith) (omega arith)
+
+pub past-spec : {M : Type 1} → statement M
+past-spec = tie.close (tie.spec returns)

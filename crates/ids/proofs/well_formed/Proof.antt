@@ -1,0 +1,30 @@
+-- The two passes say whether the rows keep the rule. Assumes nothing.
+use native.Mathlib.Omega.{arith}
+use Rattle.ids.proofs.Numbering.{checked, unchecked}
+use borrow.Author.Needs.{needs}
+use Rattle.ids.proofs.well_formed.Statement.{statement}
+use Rattle.ids.proofs.well_formed.Tie as tie
+use Rattle.ids.proofs.well_formed.Reads as reads
+use Rattle.ids.proofs.well_formed.Lts as lts
+use Rattle.ids.proofs.apart.Reads as apart-reads
+use Rattle.ids.proofs.most_rows.Reads as most-rows-reads
+use Rattle.ids.proofs.none_empty.Reads as none-empty-reads
+
+most-rows-requires : tie.Need-most-rows-requires
+most-rows-requires c κs = search needs
+
+returns : tie.Need-returns
+returns c = unchecked _ _ _ _ (omega arith)
+
+none-empty-requires : tie.Need-none-empty-requires
+none-empty-requires c κs = search needs
+
+apart-requires : tie.Need-apart-requires
+apart-requires c κs = search needs
+
+returns-2 : tie.Need-returns-2
+returns-2 c = checked (c .before .before .before .before .before .before .before .args .clients .now) (c .before .before .before .before .before .before .before .args .starts .now) (c .before .before .before .before .before .before .before .args .ends .now) (c .before .before .before .before .before .shared-slice-known2 .given) (c .before .before .before .before .shared-slice-known3 .given) _ _ _ (omega arith) (c .before .none-empty .ensures) (c .apart .ensures)
+
+pub well-formed-spec : {M : Type 1} → statement M
+well-formed-spec =
+    tie.close (tie.spec most-rows-requires returns none-empty-requires apart-requires returns-2)

@@ -1,0 +1,144 @@
+-- What the private functions promise each other: a reader of the promises may skip it. The id (client, clock) stands at client * 2^32 + clock,
+-- so an id table is a table of joined rows: clock 2^32 - 1 is in no row, so the rows of two clients never touch.
+use mathlib.Core.Path.{_≡_}
+use mathlib.Core.Bool.{Bool, true, false}
+use mathlib.Core.List.{List, []}
+use Prim.Native.Nat.{ℕ, _+_, _-_, _*_, _≤_, _<_, max, min}
+use lib.ListN.{length, getD}
+use Rattle.tables.specs.Answers.{Says}
+use Rattle.tables.specs.Limits.{rowLimit}
+use Rattle.tables.specs.Inner.Rows as inner
+use Rattle.tables.specs.declared.Made.{Made}
+use Rattle.tables.specs.declared.Made.the-variants as made
+use Rattle.tables.specs.Inner.Unite.{Last, Passed, Adds, United}
+use Rattle.varint.specs.declared.Refusal.the-variants.{Full}
+use Rattle.ids.specs.declared.Taken.{Taken}
+use Rattle.ids.specs.declared.Added.{Added}
+use Rattle.ids.specs.declared.Shared.{Shared}
+use Rattle.ids.specs.declared.Spot.{Spot}
+use Rattle.ids.specs.Tables.{Slices, three, held, most, rowsOf, filled, Table}
+
+-- the place of an id
+abbrev pub numberOf : ℕ → ℕ → ℕ
+numberOf client clock = client * 4294967296 + clock
+
+-- row i of three slices, by places
+abbrev pub idRow : List ℕ → List ℕ → List ℕ → ℕ → inner.Row
+idRow cs ss es i =
+    record { start = numberOf (getD cs i 0) (getD ss i 0); end = numberOf (getD cs i 0) (getD es i 0); weight = 1 }
+
+abbrev pub idRows : List ℕ → List ℕ → List ℕ → ℕ → inner.Rows
+idRows cs ss es n = inner.span (idRow cs ss es) 0 n
+
+-- no row is empty
+abbrev pub NoneEmpty : List ℕ → List ℕ → ℕ → Type 0
+NoneEmpty ss es j = getD ss j 0 < getD es j 0
+
+-- row j + 1 starts past the end of row j
+abbrev pub Apart : List ℕ → List ℕ → List ℕ → ℕ → Type 0
+Apart cs ss es j = numberOf (getD cs j 0) (getD es j 0) < numberOf (getD cs (j + 1) 0) (getD ss (j + 1) 0)
+
+-- an id table, index by index
+pub record IdTable (cs ss es : List ℕ) (n : ℕ) : Type 0 where
+  pub few : n ≤ most (three cs ss es)
+  pub filled : (j : ℕ) → j < n → NoneEmpty ss es j
+  pub apart : (j : ℕ) → j + 1 < n → Apart cs ss es j
+
+-- whether the slices hold a table
+pub record Checked (cs ss es : List ℕ) (n : ℕ) (r : Bool) : Type 0 where
+  pub says : Says (Table (held cs ss es n)) r
+  pub table : r ≡ true → IdTable cs ss es n
+
+-- the same of two tables; and what is stored in them is as wide as its slice
+pub record Both (ac aS ae : List ℕ) (n : ℕ) (bc bs be : List ℕ) (m : ℕ) (r : Bool) : Type 0 where
+  pub says : Says (Table (held ac aS ae n) × Table (held bc bs be m)) r
+  pub one : r ≡ true → IdTable ac aS ae n
+  pub two : r ≡ true → IdTable bc bs be m
+
+-- the first k rows that stand in the output become the result, or there is no room for them
+pub record Finished (room k : ℕ) (o o′ : Slices) (r : Made) : Type 0 where
+  pub done : k ≤ room → (r ≡ made.Rows k) × (o′ ≡ filled (rowsOf k (o .clients) (o .starts) (o .ends)) o)
+  pub full : room < k → (r ≡ made.Refused Full) × (o′ ≡ filled [] o)
+
+-- ## A union, a row a step
+
+-- past every place
+abbrev pub beyond : ℕ
+beyond = 79228162514264337593543950336
+
+-- one of two
+pub record Picked (t : Bool) (x y r : ℕ) : Type 0 where
+  pub yes′ : t ≡ true → r ≡ x
+  pub no′ : t ≡ false → r ≡ y
+
+-- an element stored at k, while there is room
+pub record Stored (room : ℕ) (l : List ℕ) (k v : ℕ) (l′ : List ℕ) : Type 0 where
+  pub below : (j : ℕ) → j < k → getD l j 0 ≡ getD l′ j 0
+  pub here : k < room → getD l′ k 0 ≡ v
+
+-- one more than the larger end, of a client that is not before the last
+pub record Further (lc le c y r : ℕ) : Type 0 where
+  pub larger : numberOf c r ≡ max (numberOf lc le) (numberOf c y + 1)
+  pub some : 1 ≤ r
+  pub small : r ≤ 4294967296
+
+-- of two rows the one that starts first is taken, the left one if both do
+pub data Takes (ac aS ae : List ℕ) (i : ℕ) (bc bs be : List ℕ) (j : ℕ) (r : Taken) : Type 0 where
+  left : r .i ≡ i + 1 → r .j ≡ j → r .client ≡ getD ac i 0 → r .start ≡ getD aS i 0 → r .end ≡ getD ae i 0
+      → numberOf (getD ac i 0) (getD aS i 0) ≤ numberOf (getD bc j 0) (getD bs j 0) → Takes ac aS ae i bc bs be j r
+  right : r .i ≡ i → r .j ≡ j + 1 → r .client ≡ getD bc j 0 → r .start ≡ getD bs j 0 → r .end ≡ getD be j 0
+      → numberOf (getD bc j 0) (getD bs j 0) ≤ numberOf (getD ac i 0) (getD aS i 0) → Takes ac aS ae i bc bs be j r
+
+-- the last of the k rows put out is of client c and ends at e - 1; with no row, both are 0
+pub record Open (room : ℕ) (oc os oe : List ℕ) (k c e : ℕ) : Type 0 where
+  pub last : Last room (idRow oc os oe) k (numberOf c e)
+  pub small : e ≤ 4294967296
+  pub client : 0 < k → k ≤ room → getD oc (k - 1) 0 ≡ c
+
+-- the row (c, x, y) joined to the k rows put out
+pub record Joins (room : ℕ) (oc os oe : List ℕ) (k lc le c x y : ℕ) (oc′ os′ oe′ : List ℕ) (r : Added) : Type 0 where
+  pub adds : Adds room (idRow oc os oe) k (numberOf lc le) (numberOf c x) (numberOf c y) (idRow oc′ os′ oe′) (r .k)
+  pub opens : Open room oc′ os′ oe′ (r .k) c (r .end)
+  pub further : numberOf c (r .end) ≡ max (numberOf lc le) (numberOf c y + 1)
+
+-- i rows of the one table and j of the other are taken
+pub record Merging (room : ℕ) (ac aS ae : List ℕ) (n i : ℕ) (bc bs be : List ℕ) (m j : ℕ) (oc os oe : List ℕ) (k c e : ℕ) : Type 0 where
+  pub united : United beyond (idRow ac aS ae) n i (idRow bc bs be) m j room (idRow oc os oe) k (numberOf c e)
+  pub opens : Open room oc os oe k c e
+  pub one : i < n → c ≤ getD ac i 0
+  pub two : j < m → c ≤ getD bc j 0
+
+-- rows of one table are left, and of the other none
+pub record Tail (room : ℕ) (cs ss es : List ℕ) (n i : ℕ) (oc os oe : List ℕ) (k c e : ℕ) : Type 0 where
+  pub opens : Open room oc os oe k c e
+  pub within : i ≤ n
+  pub later : i < n → c ≤ getD cs i 0
+  pub few : k ≤ rowLimit + i
+
+-- ## An intersection or a difference, a row a step
+
+-- the last place that a clock can name, past every end
+abbrev pub final : ℕ
+final = numberOf 18446744073709551615 4294967295
+
+-- what a row of client c shares with the places t, .., q - 1; the row is s, .., p - 1. What ends first is passed, or both
+pub record Shares (s t p q i j c : ℕ) (r : Shared) : Type 0 where
+  pub one : Passed p (min p q) i (r .i)
+  pub two : Passed q (min p q) j (r .j)
+  pub says : Says (max s t < min p q) (r .on)
+  pub start : max s t < min p q → max s t ≡ numberOf c (r .start)
+  pub end : max s t < min p q → min p q ≡ numberOf c (r .end)
+
+-- the row (c, x, y) stored at k while there is room, and counted if t
+pub record Puts (room : ℕ) (oc os oe : List ℕ) (k c x y : ℕ) (t : Bool) (oc′ os′ oe′ : List ℕ) (r : ℕ) : Type 0 where
+  pub client : Stored room oc k c oc′
+  pub start : Stored room os k x os′
+  pub end : Stored room oe k y oe′
+  pub count : Picked t (k + 1) k r
+
+-- ## Clients counted
+
+-- 1 where two clients differ
+pub record Fresh (c d r : ℕ) : Type 0 where
+  pub same : c ≡ d → r ≡ 0
+  pub other : (c ≡ d → ⊥) → r ≡ 1

@@ -1,0 +1,26 @@
+use mathlib.Core.Path.{_≡_, refl, ap, sym, subst, _∙_}
+use Prim.Native.Nat.{ℕ, suc, _+_, _-_, _*_, _/_, _≤_, _<_}
+use native.Mathlib.Omega.{arith}
+use Rattle.ranges.specs.Inner.{rowAt}
+use Rattle.tables.specs.Inner.Rows.{Row}
+use borrow.Author.Needs.{needs}
+use Rattle.ranges.proofs.end_or.Statement.{statement}
+use Rattle.ranges.proofs.end_or.Tie as tie
+use Rattle.ranges.proofs.end_or.Reads as reads
+use Rattle.ranges.proofs.end_or.Lts as lts
+use Rattle.ranges.proofs.end_at.Reads as end-at-reads
+
+returns : tie.Need-returns
+returns c = search needs
+
+sub-end-at : tie.Need-sub-end-at
+sub-end-at c = search needs
+
+end-at-requires : tie.Need-end-at-requires
+end-at-requires c κs = search needs
+
+returns-2 : tie.Need-returns-2
+returns-2 c = record { here = λ k e. c .end-at .ensures ∙ ap (λ (j : ℕ). rowAt (c .before .before .before .args .t .now) j .end) (omega arith); none = λ e. absurd (omega arith) }
+
+pub end-or-spec : {M : Type 1} → statement M
+end-or-spec = tie.close (tie.spec returns sub-end-at end-at-requires returns-2)

@@ -1,0 +1,55 @@
+use Rattle.tables.proofs.Sets.{difference-means}
+use Rattle.ranges.proofs.Writing.{refuses-both, finished}
+use native.Mathlib.Omega.{arith}
+use borrow.Author.Tests.{not-true, not-false}
+use borrow.Author.Needs.{needs}
+use Rattle.ranges.proofs.exclude.Statement.{statement}
+use Rattle.ranges.proofs.exclude.Tie as tie
+use Rattle.ranges.proofs.exclude.Reads as reads
+use Rattle.ranges.proofs.exclude.Lts as lts
+use Rattle.ranges.proofs.both.Reads as both-reads
+use Rattle.ranges.proofs.differ.Reads as differ-reads
+use Rattle.ranges.proofs.finish.Reads as finish-reads
+use Rattle.ranges.proofs.room.Reads as room-reads
+use Rattle.tables.proofs.zero.Reads as zero-reads
+
+both-requires : tie.Need-both-requires
+both-requires c κs = search needs
+
+zero-requires : tie.Need-zero-requires
+zero-requires c κs = search needs
+
+same-length : tie.Need-same-length
+same-length c = search needs
+
+returns : tie.Need-returns
+returns c = refuses-both _ (c .before .before .before .before .before .both .ensures) (not-true _ (c .before .before .before .before .if1 .taken)) (c .before .before .zero .ensures)
+
+room-requires : tie.Need-room-requires
+room-requires c κs = search needs
+
+differ-requires : tie.Need-differ-requires
+differ-requires c κs = let p = c .before .before .before .both .ensures .right (not-false _ (c .before .before .if1 .left)) in (p .0, (p .1, omega (arith, c .before .room .ensures)))
+
+finish-requires : tie.Need-finish-requires
+finish-requires c κs = search needs
+
+same-length-2 : tie.Need-same-length-2
+same-length-2 c = search needs
+
+returns-2 : tie.Need-returns-2
+returns-2 c = finished difference-means _ (c .before .before .before .before .before .before .differ .last .1 .1 .1 .1 .0) (c .before .before .before .before .before .before .before .before .before .before .both .ensures .right (not-false _ (c .before .before .before .before .before .before .before .before .before .if1 .left))) (c .before .before .before .before .before .before .before .before .room .ensures) (c .before .before .before .before .before .before .differ .kept .1 .1 .1 .1 .0) (c .before .before .before .before .before .before .differ .ensures) (c .before .before .finish .ensures)
+
+pub exclude-spec : {M : Type 1} → statement M
+exclude-spec =
+    tie.close
+    (tie.spec
+    both-requires
+    zero-requires
+    same-length
+    returns
+    room-requires
+    differ-requires
+    finish-requires
+    same-length-2
+    returns-2)

@@ -1,0 +1,46 @@
+use mathlib.Core.Path.{ap, sym, refl, _∙_}
+use mathlib.Core.Bool.{true, false}
+use mathlib.Core.Option.{none, some}
+use native.Mathlib.Omega.{arith}
+use borrow.Author.Tests.{not-true, not-false}
+use Rattle.ranges.proofs.Asking.{refused, told, found-at, found-none}
+use borrow.Author.Needs.{needs}
+use Rattle.ranges.proofs.find_start.Statement.{statement}
+use Rattle.ranges.proofs.find_start.Tie as tie
+use Rattle.ranges.proofs.find_start.Reads as reads
+use Rattle.ranges.proofs.find_start.Lts as lts
+use Rattle.ranges.proofs.ends_below.Reads as ends-below-reads
+use Rattle.ranges.proofs.well_formed.Reads as well-formed-reads
+
+well-formed-requires : tie.Need-well-formed-requires
+well-formed-requires c κs = search needs
+
+returns : tie.Need-returns
+returns c = refused (c .before .well-formed .ensures) (not-true _ (c .if1 .taken))
+
+cast-ends-below : tie.Need-cast-ends-below
+cast-ends-below c = search needs
+
+add-ends-below : tie.Need-add-ends-below
+add-ends-below c = search needs
+
+ends-below-requires : tie.Need-ends-below-requires
+ends-below-requires c κs = let t = c .before .well-formed .ensures .right (not-false _ (c .if1 .left)) in (t, omega arith)
+
+returns-2 : tie.Need-returns-2
+returns-2 c = told (c .before .before .before .well-formed .ensures) (not-false _ (c .before .before .if1 .left)) none (found-none _ _ _ _ (c .before .ends-below .ensures) (c .if2 .taken))
+
+returns-3 : tie.Need-returns-3
+returns-3 c = told (c .before .before .before .well-formed .ensures) (not-false _ (c .before .before .if1 .left)) (some _) (found-at _ _ _ _ (c .before .ends-below .ensures) (omega arith))
+
+pub find-start-spec : {M : Type 1} → statement M
+find-start-spec =
+    tie.close
+    (tie.spec
+    well-formed-requires
+    returns
+    cast-ends-below
+    add-ends-below
+    ends-below-requires
+    returns-2
+    returns-3)

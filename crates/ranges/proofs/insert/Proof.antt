@@ -1,0 +1,105 @@
+use mathlib.Core.Path.{_≡_, sym}
+use Prim.Native.Nat.{_+_}
+use native.Mathlib.Omega.{arith}
+use borrow.Author.Tests.{not-true, not-false}
+use Rattle.tables.specs.Inner.Rows.{union}
+use Rattle.tables.proofs.Sets.{union-means}
+use Rattle.tables.proofs.Inserting.{parted-from, unit-union, union-keeps}
+use Rattle.ranges.proofs.Writing.{refuses}
+use Rattle.ranges.proofs.Editing.{ruled-plain, gives-edited, same-rows, inserted-rows}
+use Rattle.ranges.proofs.Flat.{table-ruled}
+use borrow.Author.Needs.{needs}
+use Rattle.ranges.proofs.insert.Statement.{statement}
+use Rattle.ranges.proofs.insert.Tie as tie
+use Rattle.ranges.proofs.insert.Reads as reads
+use Rattle.ranges.proofs.insert.Lts as lts
+use Rattle.ranges.proofs.end_or.Reads as end-or-reads
+use Rattle.ranges.proofs.ends_below.Reads as ends-below-reads
+use Rattle.ranges.proofs.higher.Reads as higher-reads
+use Rattle.ranges.proofs.lower.Reads as lower-reads
+use Rattle.ranges.proofs.splice.Reads as splice-reads
+use Rattle.ranges.proofs.start_or.Reads as start-or-reads
+use Rattle.ranges.proofs.starts_below.Reads as starts-below-reads
+use Rattle.ranges.proofs.well_formed.Reads as well-formed-reads
+use Rattle.tables.proofs.zero.Reads as zero-reads
+
+well-formed-requires : tie.Need-well-formed-requires
+well-formed-requires c κs = search needs
+
+zero-requires : tie.Need-zero-requires
+zero-requires c κs = search needs
+
+same-length : tie.Need-same-length
+same-length c = search needs
+
+returns : tie.Need-returns
+returns c = refuses _ (λ t. c .before .before .before .before .before .well-formed .ensures .wrong (not-true _ (c .before .before .before .before .if1 .taken)) (table-ruled t)) (c .before .before .zero .ensures)
+
+splice-requires : tie.Need-splice-requires
+splice-requires c κs = (omega (arith, c .before .before .before .well-formed .ensures .right (not-false _ (c .before .before .if1 .left)) .fits), (omega arith, omega arith))
+
+same-length-2 : tie.Need-same-length-2
+same-length-2 c = search needs
+
+returns-2 : tie.Need-returns-2
+returns-2 c = gives-edited (c .before .before .before .before .before .before .before .before .before .args .start .0) (c .before .before .before .before .before .before .before .before .before .args .end .0) union-means (c .before .before .before .before .before .before .well-formed .ensures .right (not-false _ (c .before .before .before .before .before .if1 .left))) (same-rows (c .before .before .before .before .before .before .well-formed .ensures .right (not-false _ (c .before .before .before .before .before .if1 .left))) union unit-union union-keeps (c .before .before .before .before .before .before .before .before .before .args .start .0) (c .before .before .before .before .before .before .before .before .before .args .end .0) (omega arith)) (c .before .before .splice .ensures)
+
+cast-ends-below : tie.Need-cast-ends-below
+cast-ends-below c = search needs
+
+ends-below-requires : tie.Need-ends-below-requires
+ends-below-requires c κs = (c .before .before .well-formed .ensures .right (not-false _ (c .before .if1 .left)), omega arith)
+
+cast-starts-below : tie.Need-cast-starts-below
+cast-starts-below c = search needs
+
+add-starts-below : tie.Need-add-starts-below
+add-starts-below c = search needs
+
+starts-below-requires : tie.Need-starts-below-requires
+starts-below-requires c κs = (c .before .before .before .well-formed .ensures .right (not-false _ (c .before .before .if1 .left)), (omega arith, parted-from _ (ruled-plain (c .before .before .before .well-formed .ensures .right (not-false _ (c .before .before .if1 .left)))) (c .ends-below .ensures) (omega arith)))
+
+start-or-requires : tie.Need-start-or-requires
+start-or-requires c κs = omega (arith, c .before .before .before .before .well-formed .ensures .right (not-false _ (c .before .before .before .if1 .left)) .fits)
+
+end-or-requires : tie.Need-end-or-requires
+end-or-requires c κs = omega (arith, c .before .before .before .before .before .well-formed .ensures .right (not-false _ (c .before .before .before .before .if1 .left)) .fits, c .before .starts-below .ensures .0 .within)
+
+lower-requires : tie.Need-lower-requires
+lower-requires c κs = search needs
+
+higher-requires : tie.Need-higher-requires
+higher-requires c κs = search needs
+
+splice-requires-2 : tie.Need-splice-requires-2
+splice-requires-2 c κs = (omega (arith, c .before .before .before .before .before .before .before .before .before .well-formed .ensures .right (not-false _ (c .before .before .before .before .before .before .before .before .if1 .left)) .fits), (omega (arith, c .before .before .before .before .before .starts-below .ensures .1), c .before .before .before .before .before .starts-below .ensures .0 .within))
+
+same-length-3 : tie.Need-same-length-3
+same-length-3 c = search needs
+
+returns-3 : tie.Need-returns-3
+returns-3 c = gives-edited (c .before .before .before .before .before .before .before .before .before .before .before .before .before .before .before .args .start .0) (c .before .before .before .before .before .before .before .before .before .before .before .before .before .before .before .args .end .0) union-means (c .before .before .before .before .before .before .before .before .before .before .before .before .well-formed .ensures .right (not-false _ (c .before .before .before .before .before .before .before .before .before .before .before .if1 .left))) (inserted-rows (c .before .before .before .before .before .before .before .before .before .before .before .before .well-formed .ensures .right (not-false _ (c .before .before .before .before .before .before .before .before .before .before .before .if1 .left))) (c .before .before .before .before .before .lower .ensures) (c .before .before .before .before .higher .ensures) (omega arith) (c .before .before .before .before .before .before .before .before .starts-below .ensures .1) (c .before .before .before .before .before .before .before .before .before .ends-below .ensures) (c .before .before .before .before .before .before .before .before .starts-below .ensures .0) (c .before .before .before .before .before .before .before .start-or .ensures) (c .before .before .before .before .before .before .end-or .ensures)) (c .before .before .splice2 .ensures)
+
+pub insert-spec : {M : Type 1} → statement M
+insert-spec =
+    tie.close
+    (tie.spec
+    well-formed-requires
+    zero-requires
+    same-length
+    returns
+    splice-requires
+    same-length-2
+    returns-2
+    cast-ends-below
+    ends-below-requires
+    cast-starts-below
+    add-starts-below
+    starts-below-requires
+    start-or-requires
+    end-or-requires
+    lower-requires
+    higher-requires
+    splice-requires-2
+    same-length-3
+    returns-3)

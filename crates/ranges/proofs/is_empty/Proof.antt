@@ -1,0 +1,27 @@
+use mathlib.Core.Path.{ap, sym, refl, _∙_}
+use mathlib.Core.Bool.{true, false}
+use mathlib.Core.Option.{none, some}
+use native.Mathlib.Omega.{arith}
+use borrow.Author.Tests.{not-true, not-false}
+use Rattle.ranges.proofs.Asking.{refused, told, empty-yes, empty-no}
+use borrow.Author.Needs.{needs}
+use Rattle.ranges.proofs.is_empty.Statement.{statement}
+use Rattle.ranges.proofs.is_empty.Tie as tie
+use Rattle.ranges.proofs.is_empty.Reads as reads
+use Rattle.ranges.proofs.is_empty.Lts as lts
+use Rattle.ranges.proofs.well_formed.Reads as well-formed-reads
+
+well-formed-requires : tie.Need-well-formed-requires
+well-formed-requires c κs = search needs
+
+returns : tie.Need-returns
+returns c = refused (c .before .well-formed .ensures) (not-true _ (c .if1 .taken))
+
+returns-2 : tie.Need-returns-2
+returns-2 c = told (c .before .before .well-formed .ensures) (not-false _ (c .before .if1 .left)) true (λ _. empty-yes _ _ (c .if2 .taken))
+
+returns-3 : tie.Need-returns-3
+returns-3 c = told (c .before .before .well-formed .ensures) (not-false _ (c .before .if1 .left)) false (λ t. empty-no _ _ (t .fits) (c .if2 .left))
+
+pub is-empty-spec : {M : Type 1} → statement M
+is-empty-spec = tie.close (tie.spec well-formed-requires returns returns-2 returns-3)

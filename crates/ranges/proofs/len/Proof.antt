@@ -1,0 +1,25 @@
+use mathlib.Core.Path.{ap, sym, refl, _∙_}
+use mathlib.Core.Bool.{true, false}
+use mathlib.Core.Option.{none, some}
+use native.Mathlib.Omega.{arith}
+use borrow.Author.Tests.{not-true, not-false}
+use Rattle.ranges.proofs.Asking.{refused, told}
+use Rattle.ranges.proofs.Flat.{length-rows}
+use borrow.Author.Needs.{needs}
+use Rattle.ranges.proofs.len.Statement.{statement}
+use Rattle.ranges.proofs.len.Tie as tie
+use Rattle.ranges.proofs.len.Reads as reads
+use Rattle.ranges.proofs.len.Lts as lts
+use Rattle.ranges.proofs.well_formed.Reads as well-formed-reads
+
+well-formed-requires : tie.Need-well-formed-requires
+well-formed-requires c κs = search needs
+
+returns : tie.Need-returns
+returns c = refused (c .before .well-formed .ensures) (not-true _ (c .if1 .taken))
+
+returns-2 : tie.Need-returns-2
+returns-2 c = told (c .before .well-formed .ensures) (not-false _ (c .if1 .left)) _ (λ t. sym (length-rows _ _ (t .fits)))
+
+pub len-spec : {M : Type 1} → statement M
+len-spec = tie.close (tie.spec well-formed-requires returns returns-2)

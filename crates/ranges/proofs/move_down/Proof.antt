@@ -1,0 +1,87 @@
+use Rattle.ranges.proofs.Moving.{Lowered, lowered-none, lowered-more, copied-rows}
+use mathlib.Core.Path.{_≡_, refl}
+use Prim.Native.Nat.{ℕ, suc, _+_, _-_, _*_, _/_, _≤_, _<_}
+use native.Mathlib.Omega.{arith}
+use lib.ListN.{length, length-set}
+use borrow.Author.Needs.{needs}
+use Rattle.ranges.proofs.move_down.Statement.{statement}
+use Rattle.ranges.proofs.move_down.Tie as tie
+use Rattle.ranges.proofs.move_down.Reads as reads
+use Rattle.ranges.proofs.move_down.Lts as lts
+
+abbrev Inv-loop : tie.InvT-loop
+Inv-loop out₀ j k c from to len x₀ out x = Lowered out₀ (2 * j) (2 * c) x out × (x ≤ 2 * (k - j))
+
+abbrev μ-loop : tie.MeasureT-loop
+μ-loop out₀ j k c from to len x₀ out x = 2 * (k - j) - x
+
+mul-from : tie.Need-mul-from Inv-loop μ-loop
+mul-from c = search needs
+
+mul-to : tie.Need-mul-to Inv-loop μ-loop
+mul-to c = search needs
+
+sub-len : tie.Need-sub-len Inv-loop μ-loop
+sub-len c = search needs
+
+mul-len : tie.Need-mul-len Inv-loop μ-loop
+mul-len c = search needs
+
+loop-holds : tie.Need-loop-holds Inv-loop μ-loop
+loop-holds c = (lowered-none _ _ _, omega arith)
+
+add-out : tie.Need-add-out Inv-loop μ-loop
+add-out c = search needs
+
+mul-out : tie.Need-mul-out Inv-loop μ-loop
+mul-out c = search needs
+
+slice-read-out : tie.Need-slice-read-out Inv-loop μ-loop
+slice-read-out c = omega (arith, c .before .before .loop .inv .0 .copied .same)
+
+add-out-2 : tie.Need-add-out-2 Inv-loop μ-loop
+add-out-2 c = search needs
+
+mul-out-2 : tie.Need-mul-out-2 Inv-loop μ-loop
+mul-out-2 c = search needs
+
+slice-write-out : tie.Need-slice-write-out Inv-loop μ-loop
+slice-write-out c = omega (arith, c .before .before .loop .inv .0 .copied .same)
+
+add-x : tie.Need-add-x Inv-loop μ-loop
+add-x c = search needs
+
+loop-less : tie.Need-loop-less Inv-loop μ-loop
+loop-less c = search needs
+
+loop-again : tie.Need-loop-again Inv-loop μ-loop
+loop-again c = (lowered-more (c .before .before .loop .inv .0) (omega arith) (omega arith), omega arith)
+
+same-length : tie.Need-same-length Inv-loop μ-loop
+same-length c = c .before .loop .inv .0 .copied .same
+
+returns : tie.Need-returns Inv-loop μ-loop
+returns c = copied-rows (c .before .loop .inv .0 .copied) (omega arith)
+
+pub move-down-spec : {M : Type 1} → statement M
+move-down-spec =
+    tie.close
+    (tie.spec
+    Inv-loop
+    μ-loop
+    mul-from
+    mul-to
+    sub-len
+    mul-len
+    loop-holds
+    add-out
+    mul-out
+    slice-read-out
+    add-out-2
+    mul-out-2
+    slice-write-out
+    add-x
+    loop-less
+    loop-again
+    same-length
+    returns)

@@ -1,0 +1,71 @@
+use Rattle.tables.proofs.Uniting.{united-rest, rest-all}
+use Rattle.tables.specs.Inner.Unite.{United}
+use Rattle.ranges.specs.Inner.{rowAt}
+use mathlib.Core.Path.{sym, ap}
+use Rattle.ranges.proofs.Flat.{ruled-links}
+use lib.ListN.{length, length-set}
+use native.Mathlib.Omega.{arith}
+use mathlib.Core.Path.{_≡_, _∙_, refl}
+use Prim.Native.Nat.{ℕ, _<_, _≤_, _-_, _+_, _*_}
+use borrow.Author.Needs.{needs}
+use Rattle.ranges.proofs.rest.Statement.{statement}
+use Rattle.ranges.proofs.rest.Tie as tie
+use Rattle.ranges.proofs.rest.Reads as reads
+use Rattle.ranges.proofs.rest.Lts as lts
+use Rattle.ranges.proofs.end_at.Reads as end-at-reads
+use Rattle.ranges.proofs.further.Reads as further-reads
+use Rattle.ranges.proofs.join.Reads as join-reads
+use Rattle.ranges.proofs.start_at.Reads as start-at-reads
+
+abbrev Inv-loop : tie.InvT-loop
+Inv-loop a n i0 b m out₀ most k0 e0 i₀ k₀ e₀ out i k e = (length out ≡ length out₀) × United 4294967296 (rowAt a) n i (rowAt b) m m most (rowAt out) k e
+
+abbrev μ-loop : tie.MeasureT-loop
+μ-loop a n i0 b m out₀ most k0 e0 i₀ k₀ e₀ out i k e = n - i
+
+loop-holds : tie.Need-loop-holds Inv-loop μ-loop
+loop-holds c = search needs
+
+start-at-requires : tie.Need-start-at-requires Inv-loop μ-loop
+start-at-requires c κs = search needs
+
+end-at-requires : tie.Need-end-at-requires Inv-loop μ-loop
+end-at-requires c κs = search needs
+
+join-requires : tie.Need-join-requires Inv-loop μ-loop
+join-requires c κs = (omega (arith, c .before .before .before .before .loop .inv .0, c .before .before .before .before .before .before .before .before .pre .1 .1 .0), (c .before .before .before .before .loop .inv .1 .last, (omega (arith, c .before .before .before .before .loop .inv .1 .few, c .before .before .before .before .before .before .before .before .pre .0 .few, c .before .before .before .before .before .before .before .before .pre .1 .0 .few, c .before .before .before .loop-test .taken), (c .before .before .before .before .loop .inv .1 .most, omega (arith, c .before .before .start-at .ensures, c .before .end-at .ensures, c .before .before .before .before .before .before .before .before .pre .0 .ruled _ (c .before .before .before .loop-test .taken) .filled)))))
+
+further-requires : tie.Need-further-requires Inv-loop μ-loop
+further-requires c κs = search needs
+
+add-i : tie.Need-add-i Inv-loop μ-loop
+add-i c = search needs
+
+loop-less : tie.Need-loop-less Inv-loop μ-loop
+loop-less c = search needs
+
+loop-again : tie.Need-loop-again Inv-loop μ-loop
+loop-again c = (c .before .before .before .join .kept .0 ∙ c .before .before .before .before .before .before .before .before .loop .inv .0, united-rest _ _ _ _ _ _ (λ _. refl) (λ _. refl) (ruled-links (c .before .before .before .before .before .before .before .before .before .before .before .before .pre .0)) (ruled-links (c .before .before .before .before .before .before .before .before .before .before .before .before .pre .1 .0)) _ _ _ _ _ _ _ _ _ (c .before .before .before .before .before .before .before .loop-test .taken) (c .before .before .before .before .before .before .start-at .ensures) (c .before .before .before .before .before .end-at .ensures) (c .before .before .before .before .before .before .before .before .loop .inv .1) (c .before .before .before .join .ensures) (omega (arith, c .before .before .before .before .before .end-at .ok)) (c .further .ensures))
+
+same-length : tie.Need-same-length Inv-loop μ-loop
+same-length c = search needs
+
+returns : tie.Need-returns Inv-loop μ-loop
+returns c = rest-all (c .loop-test .left) (c .before .loop .inv .1)
+
+pub rest-spec : {M : Type 1} → statement M
+rest-spec =
+    tie.close
+    (tie.spec
+    Inv-loop
+    μ-loop
+    loop-holds
+    start-at-requires
+    end-at-requires
+    join-requires
+    further-requires
+    add-i
+    loop-less
+    loop-again
+    same-length
+    returns)

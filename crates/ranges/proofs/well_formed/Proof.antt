@@ -1,0 +1,74 @@
+use Prim.Native.Nat.{_-_, _*_}
+use mathlib.Core.Path.{_≡_, refl}
+use Rattle.tables.proofs.Saying.{says-no}
+use native.Mathlib.Omega.{arith}
+use Rattle.ranges.proofs.Looking.{Looked, looked-none, looked-more, looked-all}
+use Rattle.ranges.proofs.well_formed.Statement.{statement}
+use Rattle.ranges.proofs.well_formed.Tie as tie
+use Rattle.ranges.proofs.well_formed.Reads as reads
+use Rattle.ranges.proofs.well_formed.Lts as lts
+
+abbrev Inv-loop : tie.InvT-loop
+Inv-loop a n e ok₀ i₀ ok i = Looked a n i ok
+
+abbrev μ-loop : tie.MeasureT-loop
+μ-loop a n e ok₀ i₀ ok i = e - i
+
+returns : tie.Need-returns Inv-loop μ-loop
+returns c = says-no (λ w. omega (arith, w .few))
+
+returns-2 : tie.Need-returns-2 Inv-loop μ-loop
+returns-2 c = says-no (λ w. omega (arith, w .fits))
+
+mul-e : tie.Need-mul-e Inv-loop μ-loop
+mul-e c = omega arith
+
+loop-holds : tie.Need-loop-holds Inv-loop μ-loop
+loop-holds c = looked-none _ _
+
+sub-ok : tie.Need-sub-ok Inv-loop μ-loop
+sub-ok c = omega arith
+
+mul-ok : tie.Need-mul-ok Inv-loop μ-loop
+mul-ok c = omega arith
+
+shared-slice-read-ok : tie.Need-shared-slice-read-ok Inv-loop μ-loop
+shared-slice-read-ok c = omega arith
+
+mul-ok-2 : tie.Need-mul-ok-2 Inv-loop μ-loop
+mul-ok-2 c = omega arith
+
+shared-slice-read-ok-2 : tie.Need-shared-slice-read-ok-2 Inv-loop μ-loop
+shared-slice-read-ok-2 c = omega arith
+
+add-i : tie.Need-add-i Inv-loop μ-loop
+add-i c = omega arith
+
+loop-less : tie.Need-loop-less Inv-loop μ-loop
+loop-less c = omega arith
+
+loop-again : tie.Need-loop-again Inv-loop μ-loop
+loop-again c = looked-more _ (c .before .before .before .loop .inv) (omega arith)
+
+returns-3 : tie.Need-returns-3 Inv-loop μ-loop
+returns-3 c = looked-all _ (c .before .loop .inv) (omega arith) (omega arith) (omega arith)
+
+pub well-formed-spec : {M : Type 1} → statement M
+well-formed-spec =
+    tie.close
+    (tie.spec
+    Inv-loop
+    μ-loop
+    returns
+    returns-2
+    mul-e
+    loop-holds
+    sub-ok
+    mul-ok
+    shared-slice-read-ok
+    mul-ok-2
+    shared-slice-read-ok-2
+    add-i
+    loop-less
+    loop-again
+    returns-3)

@@ -1,0 +1,36 @@
+-- What the private functions promise each other, over the theory of joined rows: a reader of the promises may skip it.
+use mathlib.Core.Path.{_≡_}
+use mathlib.Core.List.{List, [], map}
+use Prim.Native.Nat.{ℕ, _+_, _*_, _/_, _≤_, _<_}
+use lib.ListN.{length, getD}
+use Rattle.tables.specs.Limits.{rowLimit}
+use Rattle.tables.specs.Inner.Rows as inner
+use Rattle.tables.specs.Inner.Rows.{span, Follows}
+use Rattle.tables.specs.declared.Made.{Made}
+use Rattle.tables.specs.declared.Made.the-variants as made
+use Rattle.varint.specs.declared.Refusal.the-variants.{Full}
+use Rattle.ranges.specs.Rows.{Row, row}
+use Rattle.ranges.specs.Tables.{most, filled}
+
+-- row i of a slice, as a row of weight 1
+abbrev pub rowAt : List ℕ → ℕ → inner.Row
+rowAt l i = record { start = getD l (2 * i) 0; end = getD l (2 * i + 1) 0; weight = 1 }
+
+-- the first n rows
+abbrev pub rowsOf : List ℕ → ℕ → inner.Rows
+rowsOf l n = span (rowAt l) 0 n
+
+-- well formed, row by row
+pub record Ruled (l : List ℕ) (n : ℕ) : Type 0 where
+  pub few : n ≤ rowLimit
+  pub fits : n ≤ length l / 2
+  pub ruled : (i : ℕ) → i < n → Follows (rowAt l) i
+
+-- a row without its weight
+abbrev pub bare : inner.Row → Row
+bare r = row (r .start) (r .end)
+
+-- what a routine answers and leaves in an output of len elements, if rs is the right result
+pub record Wrote (rs : inner.Rows) (len : ℕ) (out : List ℕ) (r : Made) : Type 0 where
+  pub full : most len < length rs → (r ≡ made.Refused Full) × (out ≡ filled len [])
+  pub done : length rs ≤ most len → (r ≡ made.Rows (length rs)) × (out ≡ filled len (map bare rs))

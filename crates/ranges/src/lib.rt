@@ -1,0 +1,800 @@
+// Range tables: rows (start, end) in a lent slice of u32, as start, end, start, end, with a count.
+ghost use mathlib.Core.Path.{_≡_};
+ghost use Prim.Native.Nat.{ℕ, _+_, _-_, _*_, _<_, _≤_, min, max};
+ghost use mathlib.Core.List.{_++_};
+ghost use lib.ListN.{length};
+ghost use Rattle.tables.specs.Answers.{Says};
+ghost use Rattle.tables.specs.Limits.{rowLimit};
+ghost use Rattle.tables.specs.Inner.Rows.{Rows, at, span, combined, union, difference, intersection};
+ghost use Rattle.tables.specs.Inner.Sweep.{Holds};
+ghost use Rattle.tables.specs.Inner.Unite.{Passed, Ended, Counted, Starts, Ends, Last, Adds, United};
+ghost use Rattle.tables.specs.Inner.Cross.{Keeps};
+ghost use Rattle.tables.specs.Inner.Differ.{GapStart, GapEnd};
+ghost use Rattle.tables.specs.Inner.Edit.{range, Advanced, Parted, starts, ends, Starting, Ending, Moved, Stands};
+ghost use Rattle.ranges.specs.Tables.{most, Merged, Excluded, Intersected, Inserted, Removed, FromRanges, ContainsClock, FindStart, ClockStart, ClockEnd, Len, IsEmpty, Get};
+ghost use Rattle.ranges.specs.Inner.{rowAt, rowsOf, Ruled, Wrote};
+
+// An index, or none, or why there is no answer.
+pub enum Place {
+    At(usize),
+    Nothing,
+    Refused(varint::Refusal),
+}
+
+// A clock, or none, or why there is no answer.
+pub enum Edge {
+    At(tables::Clock),
+    Nothing,
+    Refused(varint::Refusal),
+}
+
+// The start and the end of a row, or none, or why there is no answer.
+pub enum Found {
+    Row(tables::Clock, tables::Clock),
+    Nothing,
+    Refused(varint::Refusal),
+}
+
+// ## Rows in a flat slice
+
+// How many rows a lent slice of `len` elements holds.
+fn room(len: usize) -> usize
+    ensures { λ r. ⌜ r ≡ most len ⌝ }
+{
+    if tables::ROW_LIMIT < len / 2 {
+        tables::ROW_LIMIT
+    } else {
+        len / 2
+    }
+}
+
+fn start_at(t: &[u32], i: usize) -> u32
+    requires { ⌜ 2 * i + 1 < length (now t) ⌝ }
+    ensures { λ r. ⌜ r ≡ rowAt (now (t .entry)) i .start ⌝ }
+{
+    t[2 * i]
+}
+
+fn end_at(t: &[u32], i: usize) -> u32
+    requires { ⌜ 2 * i + 1 < length (now t) ⌝ }
+    ensures { λ r. ⌜ r ≡ rowAt (now (t .entry)) i .end ⌝ }
+{
+    t[2 * i + 1]
+}
+
+// Whether the first `n` rows of `t` are a table. No early exit: the pass over the rows becomes SIMD.
+fn well_formed(t: &[u32], n: usize) -> bool
+    ensures { λ r. ⌜ Says (Ruled (now (t .entry)) n) r ⌝ }
+{
+    if tables::ROW_LIMIT < n {
+        return false;
+    }
+    if t.len() / 2 < n {
+        return false;
+    }
+    let e = 2 * n;
+    let mut ok = true;
+    let mut i = 1;
+    while i < e {
+        ok = ok & (t[i - 1] < t[i]);
+        i += 1;
+    }
+    ok
+}
+
+// Whether both tables are well formed.
+fn both(a: &[u32], n: usize, b: &[u32], m: usize) -> bool
+    ensures { λ r. ⌜ Says (Ruled (now (a .entry)) n × Ruled (now (b .entry)) m) r ⌝ }
+{
+    let p = well_formed(a, n);
+    let q = well_formed(b, m);
+    p & q
+}
+
+fn store_start(out: &mut [u32], most: usize, k: usize, x: u32)
+    requires { ⌜ 2 * most ≤ length (now out) ⌝ }
+    ensures { λ r. ⌜ Starts most (rowAt (now (out .entry))) k x (rowAt (now (out .exit))) ⌝ }
+{
+    if k < most {
+        out[2 * k] = x;
+    }
+}
+
+fn store_end(out: &mut [u32], most: usize, k: usize, y: u32)
+    requires { ⌜ 2 * most ≤ length (now out) ⌝ }
+    ensures { λ r. ⌜ Ends most (rowAt (now (out .entry))) k y (rowAt (now (out .exit))) ⌝ }
+{
+    if k < most {
+        out[2 * k + 1] = y;
+    }
+}
+
+// Zero behind the `k` rows of `out`, or everywhere if there is no room for them.
+fn finish(out: &mut [u32], k: usize) -> tables::Made
+    ensures { λ r. ⌜ ((rs : Rows) → Holds (most (length (now (out .entry)))) (rowAt (now (out .entry))) k rs → Wrote rs (length (now (out .entry))) (now (out .exit)) r) ⌝ }
+{
+    if room(out.len()) < k {
+        tables::zero(out);
+        return tables::Made::Refused(varint::Refusal::Full);
+    }
+    tables::zero(&mut out[2 * k..]);
+    tables::Made::Rows(k)
+}
+
+fn lower(x: u32, y: u32) -> u32
+    ensures { λ r. ⌜ r ≡ min x y ⌝ }
+{
+    if x < y { x } else { y }
+}
+
+fn higher(x: u32, y: u32) -> u32
+    ensures { λ r. ⌜ r ≡ max x y ⌝ }
+{
+    if x < y { y } else { x }
+}
+
+// ## Questions
+
+// How many rows the table has.
+pub fn len(t: &[u32], n: usize) -> tables::Counted
+    ensures { λ r. ⌜ Len (now (t .entry)) n r ⌝ }
+{
+    if !well_formed(t, n) {
+        return tables::Counted::Refused(varint::Refusal::Malformed);
+    }
+    tables::Counted::Is(n)
+}
+
+// Whether the table has no row.
+pub fn is_empty(t: &[u32], n: usize) -> tables::Told
+    ensures { λ r. ⌜ IsEmpty (now (t .entry)) n r ⌝ }
+{
+    if !well_formed(t, n) {
+        return tables::Told::Refused(varint::Refusal::Malformed);
+    }
+    if n == 0 {
+        return tables::Told::Yes;
+    }
+    tables::Told::No
+}
+
+// The first start.
+pub fn clock_start(t: &[u32], n: usize) -> Edge
+    ensures { λ r. ⌜ ClockStart (now (t .entry)) n r ⌝ }
+{
+    if !well_formed(t, n) {
+        return Edge::Refused(varint::Refusal::Malformed);
+    }
+    if n == 0 {
+        return Edge::Nothing;
+    }
+    Edge::At(tables::Clock(start_at(t, 0)))
+}
+
+// The last end.
+pub fn clock_end(t: &[u32], n: usize) -> Edge
+    ensures { λ r. ⌜ ClockEnd (now (t .entry)) n r ⌝ }
+{
+    if !well_formed(t, n) {
+        return Edge::Refused(varint::Refusal::Malformed);
+    }
+    if n == 0 {
+        return Edge::Nothing;
+    }
+    Edge::At(tables::Clock(end_at(t, n - 1)))
+}
+
+// Whether one of the rows lo, .., hi - 1 holds `x`: each look halves the rows still possible.
+fn search(t: &[u32], n: usize, lo: usize, hi: usize, x: u32) -> bool
+    requires { ⌜ Ruled (now t) n ⌝ }
+    requires { ⌜ hi ≤ n ⌝ }
+    ensures { λ r. ⌜ Says (0 < at (span (rowAt (now (t .entry))) lo (hi - lo)) x) r ⌝ }
+{
+    if hi <= lo {
+        return false;
+    }
+    let mid = (lo + (hi - 1)) / 2;
+    if end_at(t, mid) <= x {
+        return search(t, n, mid + 1, hi, x);
+    }
+    if x < start_at(t, mid) {
+        return search(t, n, lo, mid, x);
+    }
+    true
+}
+
+// Whether the table holds the clock.
+pub fn contains_clock(t: &[u32], n: usize, clock: tables::Clock) -> tables::Told
+    ensures { λ r. ⌜ ContainsClock (now (t .entry)) n (clock .0) r ⌝ }
+{
+    if !well_formed(t, n) {
+        return tables::Told::Refused(varint::Refusal::Malformed);
+    }
+    let x = clock.0;
+    if search(t, n, 0, n, x) {
+        return tables::Told::Yes;
+    }
+    tables::Told::No
+}
+
+// `half` where `m` is below `x`, else 0: reckoned, for a branch here would be mispredicted every other time.
+fn advance(m: u32, x: u64, half: usize) -> usize
+    requires { ⌜ x ≤ 4294967296 ⌝ }
+    ensures { λ r. ⌜ Advanced m x half r ⌝ }
+{
+    let below = (9223372036854775807 + x - m as u64) / 9223372036854775808;
+    half * below as usize
+}
+
+// How many rows end below `x`. Each look halves the rows still possible.
+fn ends_below(t: &[u32], n: usize, x: u64) -> usize
+    requires { ⌜ Ruled (now t) n ⌝ }
+    requires { ⌜ x ≤ 4294967296 ⌝ }
+    ensures { λ r. ⌜ Parted (ends (rowAt (now (t .entry)))) n x r r ⌝ }
+{
+    let mut lo: usize = 0;
+    let mut len: usize = n;
+    while 0 < len {
+        let half = len - len / 2;
+        lo = lo + advance(end_at(t, lo + (half - 1)), x, half);
+        len = len - half;
+    }
+    lo
+}
+
+// The first row whose end exceeds the clock.
+pub fn find_start(t: &[u32], n: usize, clock: tables::Clock) -> Place
+    ensures { λ r. ⌜ FindStart (now (t .entry)) n (clock .0) r ⌝ }
+{
+    if !well_formed(t, n) {
+        return Place::Refused(varint::Refusal::Malformed);
+    }
+    let x = clock.0;
+    let i = ends_below(t, n, x as u64 + 1);
+    if n <= i {
+        return Place::Nothing;
+    }
+    Place::At(i)
+}
+
+// ## Insert and remove: the rows that the range meets are found by halving, the others are copied.
+
+// How many rows start below `x`, where the first `i` do. Most ranges meet no row or one: these looks come first.
+fn starts_below(t: &[u32], n: usize, i: usize, x: u64) -> usize
+    requires { ⌜ Ruled (now t) n ⌝ }
+    requires { ⌜ x ≤ 4294967296 ⌝ }
+    requires { ⌜ Parted (starts (rowAt (now t))) n x i n ⌝ }
+    ensures { λ r. ⌜ Parted (starts (rowAt (now (t .entry)))) n x r r ⌝ }
+    ensures { λ r. ⌜ i ≤ r ⌝ }
+{
+    if n <= i {
+        return i;
+    }
+    if x <= start_at(t, i) as u64 {
+        return i;
+    }
+    if n <= i + 1 {
+        return i + 1;
+    }
+    if x <= start_at(t, i + 1) as u64 {
+        return i + 1;
+    }
+    let mut lo: usize = i;
+    let mut len: usize = n - i;
+    while 0 < len {
+        let half = len - len / 2;
+        lo = lo + advance(start_at(t, lo + (half - 1)), x, half);
+        len = len - half;
+    }
+    lo
+}
+
+// The start of row `i`, or `s` where there is no such row.
+fn start_or(t: &[u32], n: usize, i: usize, s: u32) -> u32
+    requires { ⌜ 2 * n ≤ length (now t) ⌝ }
+    ensures { λ r. ⌜ Starting (rowAt (now (t .entry))) n i s r ⌝ }
+{
+    if n <= i {
+        return s;
+    }
+    start_at(t, i)
+}
+
+// The end of the row before `j`, or `e` where there is none.
+fn end_or(t: &[u32], j: usize, e: u32) -> u32
+    requires { ⌜ 2 * j ≤ length (now t) ⌝ }
+    ensures { λ r. ⌜ Ending (rowAt (now (t .entry))) j e r ⌝ }
+{
+    if j == 0 {
+        return e;
+    }
+    end_at(t, j - 1)
+}
+
+// The clocks start, .., end - 1: none if start is not below end.
+struct Piece {
+    start: u32,
+    end: u32,
+}
+
+// How many rows a piece takes.
+fn size(p: Piece) -> usize
+    ensures { λ r. ⌜ r ≡ length (range (p .start) (p .end)) ⌝ }
+{
+    if p.start < p.end { 1 } else { 0 }
+}
+
+// The rows `a` to `b` of `src`, copied to row `c` on.
+fn copy(src: &[u32], a: usize, b: usize, out: &mut [u32], c: usize)
+    requires { ⌜ a ≤ b ⌝ }
+    requires { ⌜ 2 * b ≤ length (now src) ⌝ }
+    requires { ⌜ 2 * (c + (b - a)) ≤ length (now out) ⌝ }
+    ensures { λ r. ⌜ Moved (rowAt (now (src .entry))) a b (rowAt (now (out .entry))) c (rowAt (now (out .exit))) ⌝ }
+{
+    let from = 2 * a;
+    let to = 2 * c;
+    let len = 2 * (b - a);
+    let mut i: usize = 0;
+    while i < len {
+        out[to + i] = src[from + i];
+        i += 1;
+    }
+}
+
+// A piece stored as row `k`, and where the next row stands.
+fn put(out: &mut [u32], k: usize, p: Piece) -> usize
+    requires { ⌜ 2 * (k + length (range (p .start) (p .end))) ≤ length (now out) ⌝ }
+    ensures { λ r. ⌜ Stands (rowAt (now (out .entry))) k (range (p .start) (p .end)) (rowAt (now (out .exit))) r ⌝ }
+{
+    if p.end <= p.start {
+        return k;
+    }
+    out[2 * k] = p.start;
+    out[2 * k + 1] = p.end;
+    k + 1
+}
+
+// The rows before `i`, two pieces, and the rows from `j` on. FULL is decided before a row is stored.
+fn splice(
+    t: &[u32],
+    n: usize,
+    i: usize,
+    j: usize,
+    p: Piece,
+    q: Piece,
+    out: &mut [u32],
+) -> tables::Made
+    requires { ⌜ 2 * n ≤ length (now t) ⌝ }
+    requires { ⌜ i ≤ j ⌝ }
+    requires { ⌜ j ≤ n ⌝ }
+    ensures { λ r. ⌜ Wrote (span (rowAt (now (t .entry))) 0 i ++ ((range (p .start) (p .end) ++ range (q .start) (q .end)) ++ span (rowAt (now (t .entry))) j (n - j))) (length (now (out .entry))) (now (out .exit)) r ⌝ }
+{
+    let k = i + size(p) + size(q) + (n - j);
+    if room(out.len()) < k {
+        return finish(out, k);
+    }
+    copy(t, 0, i, out, 0);
+    let x = put(out, i, p);
+    let y = put(out, x, q);
+    copy(t, j, n, out, y);
+    finish(out, k)
+}
+
+// The table with the clocks start, .., end - 1 put in: one row in the place of those that the range overlaps or touches.
+pub fn insert(
+    rows: &[u32],
+    n: usize,
+    start: tables::Clock,
+    end: tables::Clock,
+    out: &mut [u32],
+) -> tables::Made
+    ensures { λ r. ⌜ Inserted (now (rows .entry)) n (start .0) (end .0) (length (now (out .entry))) (now (out .exit)) r ⌝ }
+{
+    if !well_formed(rows, n) {
+        tables::zero(out);
+        return tables::Made::Refused(varint::Refusal::Malformed);
+    }
+    let s = start.0;
+    let e = end.0;
+    let none = Piece { start: 0, end: 0 };
+    if e <= s {
+        return splice(rows, n, n, n, none, none, out);
+    }
+    let i = ends_below(rows, n, s as u64);
+    let j = starts_below(rows, n, i, e as u64 + 1);
+    let p = start_or(rows, n, i, s);
+    let q = end_or(rows, j, e);
+    let piece = Piece {
+        start: lower(p, s),
+        end: higher(e, q),
+    };
+    splice(rows, n, i, j, piece, none, out)
+}
+
+// The table with the clocks start, .., end - 1 taken out: of the rows that the range overlaps, what lies before it and what lies behind it.
+pub fn remove(
+    rows: &[u32],
+    n: usize,
+    start: tables::Clock,
+    end: tables::Clock,
+    out: &mut [u32],
+) -> tables::Made
+    ensures { λ r. ⌜ Removed (now (rows .entry)) n (start .0) (end .0) (length (now (out .entry))) (now (out .exit)) r ⌝ }
+{
+    if !well_formed(rows, n) {
+        tables::zero(out);
+        return tables::Made::Refused(varint::Refusal::Malformed);
+    }
+    let s = start.0;
+    let e = end.0;
+    let none = Piece { start: 0, end: 0 };
+    if e <= s {
+        return splice(rows, n, n, n, none, none, out);
+    }
+    let i = ends_below(rows, n, s as u64 + 1);
+    let j = starts_below(rows, n, i, e as u64);
+    let first = Piece {
+        start: start_or(rows, n, i, s),
+        end: s,
+    };
+    let last = Piece {
+        start: e,
+        end: end_or(rows, j, e),
+    };
+    splice(rows, n, i, j, first, last, out)
+}
+
+// ## Merge, exclude and intersect: a row a step, without branches that hang on the rows. The count runs on past the room while nothing more is stored.
+
+// The next row, where `p` of this one is not past `x`.
+fn passed(i: usize, p: u32, x: u32) -> usize
+    requires { ⌜ i ≤ rowLimit ⌝ }
+    ensures { λ r. ⌜ Passed p x i r ⌝ }
+{
+    if p <= x { i + 1 } else { i }
+}
+
+// The end of a row that starts at `x` or before, else 0.
+fn ended(p: u32, x: u32, e: u32) -> u32
+    ensures { λ r. ⌜ Ended p x e r ⌝ }
+{
+    if p <= x { e } else { 0 }
+}
+
+// One row more, where it starts past the last.
+fn counted(k: usize, e: u64, x: u32) -> usize
+    requires { ⌜ k ≤ 2 * rowLimit ⌝ }
+    ensures { λ r. ⌜ Counted k e x r ⌝ }
+{
+    if e <= x as u64 { k + 1 } else { k }
+}
+
+// One more than the larger end.
+fn further(e: u64, y: u32) -> u64
+    ensures { λ r. ⌜ r ≡ max e (y + 1) ⌝ }
+{
+    let f = y as u64 + 1;
+    if e < f { f } else { e }
+}
+
+// One row more, which starts where the last of the `k` rows does or behind. What is stored and not counted is written over.
+fn join(out: &mut [u32], most: usize, k: usize, e: u64, x: u32, y: u32) -> usize
+    requires { ⌜ 2 * most ≤ length (now out) ⌝ }
+    requires { ⌜ Last most (rowAt (now out)) k e ⌝ }
+    requires { ⌜ k ≤ 2 * rowLimit ⌝ }
+    requires { ⌜ e ≤ 4294967296 ⌝ }
+    requires { ⌜ x < y ⌝ }
+    ensures { λ r. ⌜ Adds most (rowAt (now (out .entry))) k e x y (rowAt (now (out .exit))) r ⌝ }
+{
+    store_start(out, most, k, x);
+    let r = counted(k, e, x);
+    let f = further(e, y);
+    store_end(out, most, r - 1, (f - 1) as u32);
+    r
+}
+
+// The rows of `a` from `i` on, where `b` has none left.
+fn rest(
+    a: &[u32],
+    n: usize,
+    i0: usize,
+    b: &[u32],
+    m: usize,
+    out: &mut [u32],
+    most: usize,
+    k0: usize,
+    e0: u64,
+) -> usize
+    requires { ⌜ Ruled (now a) n ⌝ }
+    requires { ⌜ Ruled (now b) m ⌝ }
+    requires { ⌜ 2 * most ≤ length (now out) ⌝ }
+    requires { ⌜ United 4294967296 (rowAt (now a)) n i0 (rowAt (now b)) m m most (rowAt (now out)) k0 e0 ⌝ }
+    ensures { λ r. ⌜ Holds most (rowAt (now (out .exit))) r (combined union (rowsOf (now (a .entry)) n) (rowsOf (now (b .entry)) m)) ⌝ }
+{
+    let mut i = i0;
+    let mut k = k0;
+    let mut e = e0;
+    while i < n {
+        let x = start_at(a, i);
+        let y = end_at(a, i);
+        k = join(out, most, k, e, x, y);
+        e = further(e, y);
+        i += 1;
+    }
+    k
+}
+
+// The rows of the union, a row a step, as many as there is room for, and how many there are.
+fn unite(a: &[u32], n: usize, b: &[u32], m: usize, out: &mut [u32], most: usize) -> usize
+    requires { ⌜ Ruled (now a) n ⌝ }
+    requires { ⌜ Ruled (now b) m ⌝ }
+    requires { ⌜ 2 * most ≤ length (now out) ⌝ }
+    ensures { λ r. ⌜ Holds most (rowAt (now (out .exit))) r (combined union (rowsOf (now (a .entry)) n) (rowsOf (now (b .entry)) m)) ⌝ }
+{
+    let mut i: usize = 0;
+    let mut j: usize = 0;
+    let mut k: usize = 0;
+    let mut e: u64 = 0;
+    while i < n {
+        if m <= j {
+            return rest(a, n, i, b, m, out, most, k, e);
+        }
+        let p = start_at(a, i);
+        let q = start_at(b, j);
+        let s = end_at(a, i);
+        let t = end_at(b, j);
+        let x = lower(p, q);
+        i = passed(i, p, x);
+        j = passed(j, q, x);
+        let y = higher(ended(p, x, s), ended(q, x, t));
+        k = join(out, most, k, e, x, y);
+        e = further(e, y);
+    }
+    rest(b, m, j, a, n, out, most, k, e)
+}
+
+// Union.
+pub fn merge(a: &[u32], n: usize, b: &[u32], m: usize, out: &mut [u32]) -> tables::Made
+    ensures { λ r. ⌜ Merged (now (a .entry)) n (now (b .entry)) m (length (now (out .entry))) (now (out .exit)) r ⌝ }
+{
+    if !both(a, n, b, m) {
+        tables::zero(out);
+        return tables::Made::Refused(varint::Refusal::Malformed);
+    }
+    let most = room(out.len());
+    let k = unite(a, n, b, m, out, most);
+    finish(out, k)
+}
+
+// The row x, .., y - 1, which is counted if it is not empty, and else written over.
+fn keep(out: &mut [u32], most: usize, k: usize, x: u32, y: u32) -> usize
+    requires { ⌜ 2 * most ≤ length (now out) ⌝ }
+    requires { ⌜ k ≤ 2 * rowLimit ⌝ }
+    ensures { λ r. ⌜ Keeps most (rowAt (now (out .entry))) k x y (rowAt (now (out .exit))) r ⌝ }
+{
+    store_start(out, most, k, x);
+    store_end(out, most, k, y);
+    if x < y { k + 1 } else { k }
+}
+
+// Where the gap before row `j` starts: behind the row before.
+fn gap_start(b: &[u32], j: usize) -> u32
+    requires { ⌜ 2 * j ≤ length (now b) ⌝ }
+    ensures { λ r. ⌜ GapStart (rowAt (now (b .entry))) j r ⌝ }
+{
+    if j == 0 {
+        return 0;
+    }
+    end_at(b, j - 1)
+}
+
+// Where the gap before row `j` ends. Behind the last of the `m` rows there is a gap too.
+fn gap_end(b: &[u32], m: usize, j: usize) -> u32
+    requires { ⌜ 2 * m ≤ length (now b) ⌝ }
+    ensures { λ r. ⌜ GapEnd 4294967295 (rowAt (now (b .entry))) m j r ⌝ }
+{
+    if j < m {
+        return start_at(b, j);
+    }
+    4294967295
+}
+
+// The rows of the difference, a row a step: those of the intersection of `a` with the gaps of `b`. While a row is left, so is a gap.
+fn differ(a: &[u32], n: usize, b: &[u32], m: usize, out: &mut [u32], most: usize) -> usize
+    requires { ⌜ Ruled (now a) n ⌝ }
+    requires { ⌜ Ruled (now b) m ⌝ }
+    requires { ⌜ 2 * most ≤ length (now out) ⌝ }
+    ensures { λ r. ⌜ Holds most (rowAt (now (out .exit))) r (combined difference (rowsOf (now (a .entry)) n) (rowsOf (now (b .entry)) m)) ⌝ }
+{
+    let mut i: usize = 0;
+    let mut j: usize = 0;
+    let mut k: usize = 0;
+    while i < n {
+        let p = end_at(a, i);
+        let q = gap_end(b, m, j);
+        let x = higher(start_at(a, i), gap_start(b, j));
+        let y = lower(p, q);
+        i = passed(i, p, y);
+        j = passed(j, q, y);
+        k = keep(out, most, k, x, y);
+    }
+    k
+}
+
+// Difference.
+pub fn exclude(a: &[u32], n: usize, b: &[u32], m: usize, out: &mut [u32]) -> tables::Made
+    ensures { λ r. ⌜ Excluded (now (a .entry)) n (now (b .entry)) m (length (now (out .entry))) (now (out .exit)) r ⌝ }
+{
+    if !both(a, n, b, m) {
+        tables::zero(out);
+        return tables::Made::Refused(varint::Refusal::Malformed);
+    }
+    let most = room(out.len());
+    let k = differ(a, n, b, m, out, most);
+    finish(out, k)
+}
+
+// The rows of the intersection, a row a step, as many as there is room for, and how many there are.
+fn cross(a: &[u32], n: usize, b: &[u32], m: usize, out: &mut [u32], most: usize) -> usize
+    requires { ⌜ Ruled (now a) n ⌝ }
+    requires { ⌜ Ruled (now b) m ⌝ }
+    requires { ⌜ 2 * most ≤ length (now out) ⌝ }
+    ensures { λ r. ⌜ Holds most (rowAt (now (out .exit))) r (combined intersection (rowsOf (now (a .entry)) n) (rowsOf (now (b .entry)) m)) ⌝ }
+{
+    let mut i: usize = 0;
+    let mut j: usize = 0;
+    let mut k: usize = 0;
+    while i < n {
+        if m <= j {
+            return k;
+        }
+        let p = end_at(a, i);
+        let q = end_at(b, j);
+        let x = higher(start_at(a, i), start_at(b, j));
+        let y = lower(p, q);
+        i = passed(i, p, y);
+        j = passed(j, q, y);
+        k = keep(out, most, k, x, y);
+    }
+    k
+}
+
+// Intersection.
+pub fn intersect(a: &[u32], n: usize, b: &[u32], m: usize, out: &mut [u32]) -> tables::Made
+    ensures { λ r. ⌜ Intersected (now (a .entry)) n (now (b .entry)) m (length (now (out .entry))) (now (out .exit)) r ⌝ }
+{
+    if !both(a, n, b, m) {
+        tables::zero(out);
+        return tables::Made::Refused(varint::Refusal::Malformed);
+    }
+    let most = room(out.len());
+    let k = cross(a, n, b, m, out, most);
+    finish(out, k)
+}
+
+// The row at an index.
+pub fn get(t: &[u32], n: usize, index: usize) -> Found
+    ensures { λ r. ⌜ Get (now (t .entry)) n index r ⌝ }
+{
+    if !well_formed(t, n) {
+        return Found::Refused(varint::Refusal::Malformed);
+    }
+    if n <= index {
+        return Found::Nothing;
+    }
+    Found::Row(
+        tables::Clock(start_at(t, index)),
+        tables::Clock(end_at(t, index)),
+    )
+}
+
+// ## from_ranges: in the output itself.
+
+// The rows from `i` on, one row up: from the back, so that none is written over.
+fn move_up(out: &mut [u32], i: usize, k: usize)
+    requires { ⌜ i ≤ k ⌝ }
+    requires { ⌜ 2 * (k + 1) ≤ length (now out) ⌝ }
+    ensures { λ r. ⌜ Moved (rowAt (now (out .entry))) i k (rowAt (now (out .entry))) (i + 1) (rowAt (now (out .exit))) ⌝ }
+{
+    let from = 2 * i;
+    let mut w = 2 * k;
+    while from < w {
+        let next = w - 1;
+        out[next + 2] = out[next];
+        w = next;
+    }
+}
+
+// The rows from `j` on, down to row `c` on: from the front.
+fn move_down(out: &mut [u32], j: usize, k: usize, c: usize)
+    requires { ⌜ c ≤ j ⌝ }
+    requires { ⌜ j ≤ k ⌝ }
+    requires { ⌜ 2 * k ≤ length (now out) ⌝ }
+    ensures { λ r. ⌜ Moved (rowAt (now (out .entry))) j k (rowAt (now (out .entry))) c (rowAt (now (out .exit))) ⌝ }
+{
+    let from = 2 * j;
+    let to = 2 * c;
+    let len = 2 * (k - j);
+    let mut x: usize = 0;
+    while x < len {
+        out[to + x] = out[from + x];
+        x += 1;
+    }
+}
+
+// The rows from `j` on stand behind row `i` then.
+fn shift(out: &mut [u32], i: usize, j: usize, k: usize)
+    requires { ⌜ i ≤ j ⌝ }
+    requires { ⌜ j ≤ k ⌝ }
+    requires { ⌜ 2 * k ≤ length (now out) ⌝ }
+    requires { ⌜ 2 * (i + 1 + (k - j)) ≤ length (now out) ⌝ }
+    ensures { λ r. ⌜ Moved (rowAt (now (out .entry))) j k (rowAt (now (out .entry))) (i + 1) (rowAt (now (out .exit))) ⌝ }
+{
+    if i == j {
+        move_up(out, j, k);
+        return;
+    }
+    move_down(out, j, k, i + 1);
+}
+
+// How many rows end below `x`: at once where all do, or all but the last.
+fn tail_below(t: &[u32], n: usize, x: u64) -> usize
+    requires { ⌜ Ruled (now t) n ⌝ }
+    requires { ⌜ x ≤ 4294967296 ⌝ }
+    ensures { λ r. ⌜ Parted (ends (rowAt (now (t .entry)))) n x r r ⌝ }
+{
+    if n < 2 {
+        return ends_below(t, n, x);
+    }
+    if (end_at(t, n - 1) as u64) < x {
+        return n;
+    }
+    if (end_at(t, n - 2) as u64) < x {
+        return n - 1;
+    }
+    ends_below(t, n, x)
+}
+
+// The table of `k` rows with one range more, in its own room, and how many rows it has then: where there is no room for them, nothing is stored.
+fn grow(out: &mut [u32], k: usize, s: u32, e: u32) -> usize
+    requires { ⌜ Ruled (now out) k ⌝ }
+    ensures { λ r. ⌜ Holds (most (length (now (out .entry)))) (rowAt (now (out .exit))) r (combined union (rowsOf (now (out .entry)) k) (range s e)) ⌝ }
+{
+    if e <= s {
+        return k;
+    }
+    let i = tail_below(out, k, s as u64);
+    let j = starts_below(out, k, i, e as u64 + 1);
+    let p = lower(start_or(out, k, i, s), s);
+    let q = higher(e, end_or(out, j, e));
+    let r = i + 1 + (k - j);
+    if room(out.len()) < r {
+        return r;
+    }
+    shift(out, i, j, k);
+    out[2 * i] = p;
+    out[2 * i + 1] = q;
+    r
+}
+
+// The table of the first `n` start, end pairs of `l`, put in one after the other, in the output itself.
+pub fn from_ranges(l: &[u32], n: usize, out: &mut [u32]) -> tables::Made
+    ensures { λ r. ⌜ FromRanges (now (l .entry)) n (length (now (out .entry))) (now (out .exit)) r ⌝ }
+{
+    if l.len() / 2 < n {
+        tables::zero(out);
+        return tables::Made::Refused(varint::Refusal::Malformed);
+    }
+    let most = room(out.len());
+    let mut k: usize = 0;
+    let mut i: usize = 0;
+    while i < n {
+        k = grow(out, k, start_at(l, i), end_at(l, i));
+        if most < k {
+            tables::zero(out);
+            return tables::Made::Refused(varint::Refusal::Full);
+        }
+        i += 1;
+    }
+    finish(out, k)
+}

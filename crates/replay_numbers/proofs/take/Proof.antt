@@ -1,0 +1,23 @@
+-- `replay_numbers::take` is safe and ends. Assumes nothing.
+use mathlib.Core.Path.{sym}
+use native.Mathlib.Omega.{arith}
+use borrow.Author.Needs.{needs}
+use lib.Seq.{length-take-le}
+use Rattle.replay_numbers.proofs.take.Statement.{statement}
+use Rattle.replay_numbers.proofs.take.Tie as tie
+
+pub take-spec : {M : Type 1} → statement M
+take-spec =
+    tie.close
+    (tie.spec
+    (λ c. search needs)
+    (λ c. sym (length-take-le _ _ (omega arith)))
+    (λ c κs. search needs)
+    (λ c. search needs)
+    (λ c. search needs)
+    (λ c. search needs)
+    (λ c. search needs)
+    (λ c. search needs)
+    (λ c. search needs)
+    (λ c. search needs)
+    (λ c. search needs))
