@@ -10,41 +10,8 @@ const WHOLE: [&str; 10] = [
     "utils/mod.rs", "utils/client_hasher.rs",
 ];
 
-/// The boundary as Rust: for each `pub extern "C" fn` of the boundary crate its declaration and a safe
-/// function over slices, and its `#[repr(C)]` structs. Made from the source, so that it can't drift.
-fn boundary(text: &str) -> String {
-    let code: String = text.lines().filter(|l| !l.trim_start().starts_with("//")).collect::<Vec<_>>().join("\n");
-    let (mut types, mut raw, mut safe) = (String::new(), String::new(), String::new());
-    for part in code.split("#[repr(C)]").skip(1) {
-        let end = part.find('}').map(|i| i + 1).into_iter().chain(part.find(';').map(|i| i + 1)).min().unwrap();
-        types += &format!("#[repr(C)] #[derive(Debug, Clone, Copy, PartialEq, Eq)]\n{}\n", part[..end].trim());
-    }
-    for part in code.split("pub extern \"C\" fn ").skip(1) {
-        let (name, rest) = part.split_once('(').unwrap();
-        let (args, rest) = rest.split_once(')').unwrap();
-        let ret = rest.trim_start().strip_prefix("->").map(|r| r.trim_start().split(|c: char| c.is_whitespace() || c == '{').next().unwrap());
-        let to = ret.map_or(String::new(), |r| format!(" -> {r}"));
-        let (mut c, mut call, mut rust) = (vec![], vec![], vec![]);
-        for a in args.split(',').map(str::trim).filter(|a| !a.is_empty()) {
-            let (n, t) = a.split_once(':').unwrap();
-            let (n, t) = (n.trim(), t.trim());
-            rust.push(format!("{n}: {t}"));
-            if let Some(e) = t.strip_prefix("&mut [") {
-                c.push(format!("{n}: *mut {}, {n}_len: usize", &e[..e.len() - 1]));
-                call.push(format!("{n}.as_mut_ptr(), {n}.len()"));
-            } else if let Some(e) = t.strip_prefix("&[") {
-                c.push(format!("{n}: *const {}, {n}_len: usize", &e[..e.len() - 1]));
-                call.push(format!("{n}.as_ptr(), {n}.len()"));
-            } else {
-                c.push(format!("{n}: {t}"));
-                call.push(n.to_string());
-            }
-        }
-        raw += &format!("        pub fn {name}({}){to};\n", c.join(", "));
-        safe += &format!("#[inline] pub fn {name}({}){to} {{ unsafe {{ c::{name}({}) }} }}\n", rust.join(", "), call.join(", "));
-    }
-    format!("{types}\nmod c {{\n    use super::*;\n    extern \"C\" {{\n{raw}    }}\n}}\n{safe}")
-}
+// The boundary as Rust, made from its source.
+include!("../bindings/boundary.rs");
 
 /// The text from `first` up to `last`, which must follow it.
 fn cut(text: &str, first: &str, last: &str) -> String {
@@ -64,8 +31,21 @@ fn main() {
         println!("cargo:rustc-cfg=rattle");
         let src = concat!(env!("CARGO_MANIFEST_DIR"), "/../crates/ffi/src/lib.rt");
         println!("cargo:rerun-if-changed={src}");
+        println!("cargo:rerun-if-changed={}", concat!(env!("CARGO_MANIFEST_DIR"), "/../bindings/boundary.rs"));
         fs::write(PathBuf::from(env::var("OUT_DIR").unwrap()).join("boundary.rs"), boundary(&fs::read_to_string(src).unwrap())).unwrap();
     }
+    // other libraries for the measurements, where PEERS_LIB names the folder of libpeers.a
+    println!("cargo:rerun-if-env-changed=PEERS_LIB");
+    println!("cargo:rustc-check-cfg=cfg(peers)");
+    if let Ok(dir) = env::var("PEERS_LIB") {
+        println!("cargo:rerun-if-changed={dir}/libpeers.a");
+        println!("cargo:rustc-link-search=native={dir}");
+        println!("cargo:rustc-link-lib=static=peers");
+        for l in ["roaring", "protobuf", "stdc++"] { println!("cargo:rustc-link-lib=dylib={l}") }
+        println!("cargo:rustc-cfg=peers");
+    }
+    let rustc = std::process::Command::new(env::var("RUSTC").unwrap()).arg("--version").output().unwrap();
+    println!("cargo:rustc-env=RUSTC_SAYS={}", String::from_utf8_lossy(&rustc.stdout).trim());
     println!("cargo:rerun-if-env-changed=YRS_SRC");
     println!("cargo:rerun-if-changed=build.rs");
     let from = PathBuf::from(env::var("YRS_SRC").expect("set YRS_SRC to the folder of yrs 0.28.0 (src/ids.rs ..)")).join("src");

@@ -9,6 +9,8 @@ pub use stand_ins::{Any, ReadTxn};
 mod stand_ins;
 pub use stand_ins::{block_store, iter, slice, store};
 
+#[cfg(rattle)]
+pub mod bench;
 pub mod case;
 pub mod facts;
 pub mod gen;

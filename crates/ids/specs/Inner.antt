@@ -6,6 +6,7 @@ use mathlib.Core.List.{List, []}
 use Prim.Native.Nat.{ℕ, _+_, _-_, _*_, _≤_, _<_, max, min}
 use lib.ListN.{length, getD}
 use Rattle.tables.specs.Answers.{Says}
+use Rattle.tables.specs.Limits.{rowLimit}
 use Rattle.tables.specs.Inner.Rows as inner
 use Rattle.tables.specs.declared.Made.{Made}
 use Rattle.tables.specs.declared.Made.the-variants as made
@@ -112,7 +113,7 @@ pub record Tail (room : ℕ) (cs ss es : List ℕ) (n i : ℕ) (oc os oe : List 
   pub opens : Open room oc os oe k c e
   pub within : i ≤ n
   pub later : i < n → c ≤ getD cs i 0
-  pub few : k ≤ 1024 + i
+  pub few : k ≤ rowLimit + i
 
 -- ## An intersection or a difference, a row a step
 

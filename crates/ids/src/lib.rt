@@ -2,7 +2,7 @@
 ghost use mathlib.Core.Path.{_≡_};
 ghost use mathlib.Core.List.{_++_};
 ghost use mathlib.Core.List.{List};
-ghost use Prim.Native.Nat.{ℕ, _+_, _-_, _≤_, _<_, min};
+ghost use Prim.Native.Nat.{ℕ, _+_, _-_, _*_, _≤_, _<_, min};
 ghost use lib.ListN.{length, getD, take, replicate};
 ghost use Rattle.tables.specs.Answers.{Says};
 ghost use Rattle.tables.specs.Limits.{rowLimit};
@@ -258,7 +258,7 @@ fn past(lc: u64, le: u64, c: u64, x: u32) -> bool
 
 // One row more, where it starts past the last.
 fn counted(k: usize, lc: u64, le: u64, c: u64, x: u32) -> usize
-    requires { ⌜ (k ≤ 2048) × (le ≤ 4294967296) ⌝ }
+    requires { ⌜ (k ≤ 2 * rowLimit) × (le ≤ 4294967296) ⌝ }
     ensures { λ r. ⌜ Counts k (numberOf lc le) (numberOf c x) r ⌝ }
 {
     if past(lc, le, c, x) { k + 1 } else { k }
@@ -294,7 +294,7 @@ fn join(
 ) -> Added
     requires { ⌜ most ≤ room (three (now «to_clients») (now «to_starts») (now «to_ends»)) ⌝ }
     requires { ⌜ Open most (now «to_clients») (now «to_starts») (now «to_ends») k lc le ⌝ }
-    requires { ⌜ (k ≤ 2048) × (lc ≤ c) × (x < y) ⌝ }
+    requires { ⌜ (k ≤ 2 * rowLimit) × (lc ≤ c) × (x < y) ⌝ }
     ensures { λ r. ⌜ Joins most (now («to_clients» .entry)) (now («to_starts» .entry)) (now («to_ends» .entry)) k lc le c x y
         (now («to_clients» .exit)) (now («to_starts» .exit)) (now («to_ends» .exit)) r ⌝ }
 {
@@ -496,7 +496,7 @@ pub struct Shared {
 
 // What the row (c, x, e) shares with the places from (gc, gx) on that are before (hc, hx). What is shared is of client `c`.
 fn share(i: usize, j: usize, c: u64, x: u32, e: u32, gc: u64, gx: u32, hc: u64, hx: u32) -> Shared
-    requires { ⌜ (i ≤ 1024) × (j ≤ 1024) ⌝ }
+    requires { ⌜ (i ≤ rowLimit) × (j ≤ rowLimit) ⌝ }
     ensures { λ r. ⌜ Shares (numberOf c x) (numberOf gc gx) (numberOf c e) (numberOf hc hx) i j c r ⌝ }
 {
     let late = precedes(c, x, gc, gx);
@@ -526,7 +526,7 @@ fn keep(
     on: bool,
 ) -> usize
     requires { ⌜ most ≤ room (three (now «to_clients») (now «to_starts») (now «to_ends»)) ⌝ }
-    requires { ⌜ k ≤ 2048 ⌝ }
+    requires { ⌜ k ≤ 2 * rowLimit ⌝ }
     ensures { λ r. ⌜ Puts most (now («to_clients» .entry)) (now («to_starts» .entry)) (now («to_ends» .entry)) k c x y on
         (now («to_clients» .exit)) (now («to_starts» .exit)) (now («to_ends» .exit)) r ⌝ }
 {
