@@ -133,7 +133,7 @@ pub fn read_signed<T: SignedVarInt>(bytes: &[u8], at: usize) -> Result<(Signed<T
     T::read_signed_at(bytes, at)
 }
 
-/// As [`write`], with the sign kept apart.
+/// As [`write()`], with the sign kept apart.
 #[inline]
 pub fn write_signed<T: SignedVarInt>(value: Signed<T>, buf: &mut [u8], at: usize) -> Result<usize, Refusal> {
     T::write_signed_at(value, buf, at)
