@@ -7,6 +7,7 @@ pub mod Placing
 pub mod Merging
 pub mod Sharing
 pub mod Inserting
+pub mod Splicing
 pub mod Asking
 pub mod Unique
 pub mod Determined

@@ -6,6 +6,7 @@ use Prim.Native.Nat.{ℕ, _+_, _-_, _*_, _≤_, _<_, max}
 use native.Mathlib.Omega.{arith}
 use lib.ListN.{getD}
 use Rattle.tables.specs.Answers.{Says}
+use Rattle.tables.specs.Limits.{rowLimit}
 use Rattle.tables.specs.Inner.Rows as inner
 use Rattle.tables.specs.Inner.Sweep.{Holds}
 use Rattle.tables.specs.Inner.Unite.{United}
@@ -58,7 +59,7 @@ module _ (room : ℕ) (ac aS ae : List ℕ) (wa : Wide ac) (fa : Narrow aS) (ga 
 
   -- what a taken row may be asked for
   pub later : (i j : ℕ) → i < n → j < m → (oc os oe : List ℕ) (k c e : ℕ) (t : Taken) → Takes ac aS ae i bc bs be j t → Merging room ac aS ae n i bc bs be m j oc os oe k c e
-      → (k ≤ 2048) × (c ≤ t .client) × (t .start < t .end)
+      → (k ≤ 2 * rowLimit) × (c ≤ t .client) × (t .start < t .end)
   later i j h g oc os oe k c e t (left p q s u w l) z = (omega (arith, z .united .few, ta .few, tb .few), omega (arith, z .one h), omega (arith, ta .filled i h))
   later i j h g oc os oe k c e t (right p q s u w l) z = (omega (arith, z .united .few, ta .few, tb .few), omega (arith, z .two g), omega (arith, tb .filled j g))
 

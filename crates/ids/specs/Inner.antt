@@ -3,9 +3,10 @@
 use mathlib.Core.Path.{_≡_}
 use mathlib.Core.Bool.{Bool, true, false}
 use mathlib.Core.List.{List, []}
-use Prim.Native.Nat.{ℕ, _+_, _-_, _*_, _≤_, _<_, max, min}
+use Prim.Native.Nat.{ℕ, suc, _+_, _-_, _*_, _≤_, _<_, max, min}
 use lib.ListN.{length, getD}
 use Rattle.tables.specs.Answers.{Says}
+use Rattle.tables.specs.Limits.{rowLimit}
 use Rattle.tables.specs.Inner.Rows as inner
 use Rattle.tables.specs.declared.Made.{Made}
 use Rattle.tables.specs.declared.Made.the-variants as made
@@ -112,7 +113,7 @@ pub record Tail (room : ℕ) (cs ss es : List ℕ) (n i : ℕ) (oc os oe : List 
   pub opens : Open room oc os oe k c e
   pub within : i ≤ n
   pub later : i < n → c ≤ getD cs i 0
-  pub few : k ≤ 1024 + i
+  pub few : k ≤ rowLimit + i
 
 -- ## An intersection or a difference, a row a step
 
@@ -141,3 +142,31 @@ pub record Puts (room : ℕ) (oc os oe : List ℕ) (k c x y : ℕ) (t : Bool) (o
 pub record Fresh (c d r : ℕ) : Type 0 where
   pub same : c ≡ d → r ≡ 0
   pub other : (c ≡ d → ⊥) → r ≡ 1
+
+-- ## An insert
+
+abbrev pub marks : List ℕ → List ℕ → ℕ → ℕ
+marks cs ks k = numberOf (getD cs k 0) (getD ks k 0)
+
+-- the start of row i, if that is before the id (c, s), or s
+pub record Leads (cs ks : List ℕ) (n i c s r : ℕ) : Type 0 where
+  pub here : i < n → numberOf (getD cs i 0) (getD ks i 0) < numberOf c s → r ≡ getD ks i 0
+  pub later : i < n → numberOf c s ≤ numberOf (getD cs i 0) (getD ks i 0) → r ≡ s
+  pub none : n ≤ i → r ≡ s
+
+-- the end of the row before j, if that is past the id (c, e), or e
+pub record Trails (cs ks : List ℕ) (j c e r : ℕ) : Type 0 where
+  pub here : (k : ℕ) → suc k ≡ j → numberOf c e < numberOf (getD cs k 0) (getD ks k 0) → r ≡ getD ks k 0
+  pub sooner : (k : ℕ) → suc k ≡ j → numberOf (getD cs k 0) (getD ks k 0) ≤ numberOf c e → r ≡ e
+  pub none : j ≡ 0 → r ≡ e
+
+-- the elements a, .., b - 1 of src stand from c on, and what was before them stays
+pub record Shifted (src : List ℕ) (a b : ℕ) (l : List ℕ) (c : ℕ) (l′ : List ℕ) : Type 0 where
+  pub below : (x : ℕ) → x < c → getD l′ x 0 ≡ getD l x 0
+  pub there : (x : ℕ) → a + x < b → getD l′ (c + x) 0 ≡ getD src (a + x) 0
+
+-- the elements before i, then v, then the elements j, .., n - 1
+pub record Spliced (src : List ℕ) (n i j v : ℕ) (l : List ℕ) : Type 0 where
+  pub front : (x : ℕ) → x < i → getD l x 0 ≡ getD src x 0
+  pub here : getD l i 0 ≡ v
+  pub back : (x : ℕ) → j + x < n → getD l (i + 1 + x) 0 ≡ getD src (j + x) 0

@@ -1,18 +1,18 @@
 // Id tables: rows (client, start, end) in three lent slices, as desks hold and send them.
 ghost use mathlib.Core.Path.{_≡_};
-ghost use mathlib.Core.List.{_++_};
-ghost use mathlib.Core.List.{List};
-ghost use Prim.Native.Nat.{ℕ, _+_, _-_, _≤_, _<_, min};
+ghost use mathlib.Core.List.{List, _++_};
+ghost use Prim.Native.Nat.{ℕ, _+_, _-_, _*_, _≤_, _<_, min};
 ghost use lib.ListN.{length, getD, take, replicate};
 ghost use Rattle.tables.specs.Answers.{Says};
 ghost use Rattle.tables.specs.Limits.{rowLimit};
 ghost use Rattle.tables.specs.Inner.Rows.{at, span, combined, union, difference, intersection};
 ghost use Rattle.tables.specs.Inner.Differ.{GapStart, GapEnd};
+ghost use Rattle.tables.specs.Inner.Edit.{Parted};
 ghost use Rattle.tables.specs.Inner.Sweep.{Holds};
 ghost use Rattle.tables.specs.Inner.Unite.{Counted as Counts, United};
 ghost use Rattle.ids.specs.Rows.{row};
 ghost use Rattle.ids.specs.Tables.{three, held, room, rowsOf, filled, Captured, Merged, Diffed, Intersected, Inserted, Contains, Empty, Clients, Len};
-ghost use Rattle.ids.specs.Inner.{numberOf, idRow, NoneEmpty, Apart, idRows, IdTable, Checked, Both, Finished, beyond, Picked, Stored, Further, Takes, Open, Joins, Merging, Tail, final, Shares, Puts, Fresh};
+ghost use Rattle.ids.specs.Inner.{numberOf, idRow, NoneEmpty, Apart, idRows, IdTable, Checked, Both, Finished, beyond, Picked, Stored, Further, Takes, Open, Joins, Merging, Tail, final, Shares, Puts, Fresh, marks, Leads, Trails, Shifted, Spliced};
 
 // Whether the id (c, x) comes before the id (d, y).
 fn precedes(c: u64, x: u32, d: u64, y: u32) -> bool
@@ -258,7 +258,7 @@ fn past(lc: u64, le: u64, c: u64, x: u32) -> bool
 
 // One row more, where it starts past the last.
 fn counted(k: usize, lc: u64, le: u64, c: u64, x: u32) -> usize
-    requires { ⌜ (k ≤ 2048) × (le ≤ 4294967296) ⌝ }
+    requires { ⌜ (k ≤ 2 * rowLimit) × (le ≤ 4294967296) ⌝ }
     ensures { λ r. ⌜ Counts k (numberOf lc le) (numberOf c x) r ⌝ }
 {
     if past(lc, le, c, x) { k + 1 } else { k }
@@ -294,7 +294,7 @@ fn join(
 ) -> Added
     requires { ⌜ most ≤ room (three (now «to_clients») (now «to_starts») (now «to_ends»)) ⌝ }
     requires { ⌜ Open most (now «to_clients») (now «to_starts») (now «to_ends») k lc le ⌝ }
-    requires { ⌜ (k ≤ 2048) × (lc ≤ c) × (x < y) ⌝ }
+    requires { ⌜ (k ≤ 2 * rowLimit) × (lc ≤ c) × (x < y) ⌝ }
     ensures { λ r. ⌜ Joins most (now («to_clients» .entry)) (now («to_starts» .entry)) (now («to_ends» .entry)) k lc le c x y
         (now («to_clients» .exit)) (now («to_starts» .exit)) (now («to_ends» .exit)) r ⌝ }
 {
@@ -496,7 +496,7 @@ pub struct Shared {
 
 // What the row (c, x, e) shares with the places from (gc, gx) on that are before (hc, hx). What is shared is of client `c`.
 fn share(i: usize, j: usize, c: u64, x: u32, e: u32, gc: u64, gx: u32, hc: u64, hx: u32) -> Shared
-    requires { ⌜ (i ≤ 1024) × (j ≤ 1024) ⌝ }
+    requires { ⌜ (i ≤ rowLimit) × (j ≤ rowLimit) ⌝ }
     ensures { λ r. ⌜ Shares (numberOf c x) (numberOf gc gx) (numberOf c e) (numberOf hc hx) i j c r ⌝ }
 {
     let late = precedes(c, x, gc, gx);
@@ -526,7 +526,7 @@ fn keep(
     on: bool,
 ) -> usize
     requires { ⌜ most ≤ room (three (now «to_clients») (now «to_starts») (now «to_ends»)) ⌝ }
-    requires { ⌜ k ≤ 2048 ⌝ }
+    requires { ⌜ k ≤ 2 * rowLimit ⌝ }
     ensures { λ r. ⌜ Puts most (now («to_clients» .entry)) (now («to_starts» .entry)) (now («to_ends» .entry)) k c x y on
         (now («to_clients» .exit)) (now («to_starts» .exit)) (now («to_ends» .exit)) r ⌝ }
 {
@@ -782,6 +782,103 @@ pub fn intersect(
     finish(to_clients, to_starts, to_ends, most, k)
 }
 
+// How many of `n` rows have a mark, start or end, before (c, x), where the first `i` do: each look halves the rows still possible.
+fn below(clients: &[u64], clocks: &[u32], n: usize, i: usize, c: u64, x: u64) -> usize
+    requires { ⌜ (n ≤ length (now clients)) × (n ≤ length (now clocks)) × (x ≤ 4294967296) ⌝ }
+    requires { ⌜ Parted (marks (now clients) (now clocks)) n (numberOf c x) i n ⌝ }
+    ensures { λ r. ⌜ Parted (marks (now (clients .entry)) (now (clocks .entry))) n (numberOf c x) r r ⌝ }
+    ensures { λ r. ⌜ i ≤ r ⌝ }
+{
+    let mut lo: usize = i;
+    let mut hi: usize = n;
+    while lo < hi {
+        let mid = lo + (hi - lo) / 2;
+        if past(c, x, clients[mid], clocks[mid]) {
+            hi = mid;
+        } else {
+            lo = mid + 1;
+        }
+    }
+    lo
+}
+
+// The start of row `i`, if that is before (c, s), or `s`.
+fn lead(clients: &[u64], starts: &[u32], n: usize, i: usize, c: u64, s: u32) -> u32
+    requires { ⌜ (n ≤ length (now clients)) × (n ≤ length (now starts)) ⌝ }
+    ensures { λ r. ⌜ Leads (now (clients .entry)) (now (starts .entry)) n i c s r ⌝ }
+{
+    if n <= i {
+        return s;
+    }
+    let x = starts[i];
+    if precedes(clients[i], x, c, s) {
+        return x;
+    }
+    s
+}
+
+// The end of the row before `j`, if that is past (c, e), or `e`.
+fn trail(clients: &[u64], ends: &[u32], j: usize, c: u64, e: u32) -> u32
+    requires { ⌜ (j ≤ length (now clients)) × (j ≤ length (now ends)) ⌝ }
+    ensures { λ r. ⌜ Trails (now (clients .entry)) (now (ends .entry)) j c e r ⌝ }
+{
+    if j == 0 {
+        return e;
+    }
+    let k = j - 1;
+    let y = ends[k];
+    if precedes(c, e, clients[k], y) {
+        return y;
+    }
+    e
+}
+
+// The elements `a` to `b` of `src`, copied to element `to` on.
+fn shift(src: &[u32], a: usize, b: usize, out: &mut [u32], to: usize)
+    requires { ⌜ (a ≤ b) × (b ≤ length (now src)) × (to + (b - a) ≤ length (now out)) ⌝ }
+    ensures { λ r. ⌜ Shifted (now (src .entry)) a b (now (out .entry)) to (now (out .exit)) ⌝ }
+{
+    let len = b - a;
+    let mut i: usize = 0;
+    while i < len {
+        out[to + i] = src[a + i];
+        i += 1;
+    }
+}
+
+// The elements `a` to `b` of `src`, copied to element `to` on.
+fn shift_wide(src: &[u64], a: usize, b: usize, out: &mut [u64], to: usize)
+    requires { ⌜ (a ≤ b) × (b ≤ length (now src)) × (to + (b - a) ≤ length (now out)) ⌝ }
+    ensures { λ r. ⌜ Shifted (now (src .entry)) a b (now (out .entry)) to (now (out .exit)) ⌝ }
+{
+    let len = b - a;
+    let mut i: usize = 0;
+    while i < len {
+        out[to + i] = src[a + i];
+        i += 1;
+    }
+}
+
+// The elements before `i`, then `v`, then the elements from `j` on.
+fn splice(src: &[u32], n: usize, i: usize, j: usize, v: u32, out: &mut [u32])
+    requires { ⌜ (i ≤ j) × (j ≤ n) × (n ≤ length (now src)) × (i + 1 + (n - j) ≤ length (now out)) ⌝ }
+    ensures { λ r. ⌜ Spliced (now (src .entry)) n i j v (now (out .exit)) ⌝ }
+{
+    shift(src, 0, i, out, 0);
+    out[i] = v;
+    shift(src, j, n, out, i + 1);
+}
+
+// The elements before `i`, then `v`, then the elements from `j` on.
+fn splice_wide(src: &[u64], n: usize, i: usize, j: usize, v: u64, out: &mut [u64])
+    requires { ⌜ (i ≤ j) × (j ≤ n) × (n ≤ length (now src)) × (i + 1 + (n - j) ≤ length (now out)) ⌝ }
+    ensures { λ r. ⌜ Spliced (now (src .entry)) n i j v (now (out .exit)) ⌝ }
+{
+    shift_wide(src, 0, i, out, 0);
+    out[i] = v;
+    shift_wide(src, j, n, out, i + 1);
+}
+
 // One range more; an empty range adds no row.
 pub fn insert_range(
     clients: &[u64],
@@ -806,22 +903,23 @@ pub fn insert_range(
     if e <= s {
         return capture(clients, starts, ends, count, to_clients, to_starts, to_ends);
     }
-    let cs = [c; 1];
-    let ss = [s; 1];
-    let es = [e; 1];
-    merge(
-        clients,
-        starts,
-        ends,
-        count,
-        &cs,
-        &ss,
-        &es,
-        1,
-        to_clients,
-        to_starts,
-        to_ends,
-    )
+    if !well_formed(clients, starts, ends, count) {
+        trim(to_clients, to_starts, to_ends, 0);
+        return tables::Made::Refused(varint::Refusal::Malformed);
+    }
+    let i = below(clients, ends, count, 0, c, s as u64);
+    let j = below(clients, starts, count, i, c, e as u64 + 1);
+    let x = lead(clients, starts, count, i, c, s);
+    let y = trail(clients, ends, j, c, e);
+    let most = most_rows(to_clients.len(), to_starts.len(), to_ends.len());
+    let k = i + 1 + (count - j);
+    if most < k {
+        return finish(to_clients, to_starts, to_ends, most, k);
+    }
+    splice_wide(clients, count, i, j, c, to_clients);
+    splice(starts, count, i, j, x, to_starts);
+    splice(ends, count, i, j, y, to_ends);
+    finish(to_clients, to_starts, to_ends, most, k)
 }
 
 // Whether one of the rows lo, .., hi - 1 holds the id: each look halves the rows still possible.

@@ -12,3 +12,5 @@ pub mod Determined
 pub mod Most
 pub mod Starred
 pub mod Refuted
+pub mod Same
+pub mod Orders

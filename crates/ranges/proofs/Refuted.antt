@@ -11,8 +11,9 @@ use Rattle.tables.specs.declared.Made.{Made}
 use Rattle.tables.specs.declared.Made.the-variants as made
 use Rattle.tables.specs.declared.Told.the-variants.{Yes}
 use Rattle.ranges.specs.Rows.{Row, row, Joined}
-use Rattle.ranges.specs.Tables.{rows, flat, filled, Merged, ContainsClock}
-use Rattle.ranges.proofs.Determined.{writes-determined}
+use Rattle.ranges.specs.Tables.{rows, flat, filled, Merged, FromRanges, ContainsClock}
+use Rattle.ranges.proofs.Determined.{writes-determined, from-ranges-determined}
+use Rattle.ranges.proofs.Orders.{apart, apart-refused}
 
 -- two empty tables have an empty union
 nothing : Merged [] 0 [] 0 0 [] (made.Rows 0)
@@ -86,3 +87,10 @@ pub end-included : ContainsClock (2 ∷ 5 ∷ []) 1 5 Yes → ⊥
 unfolding rows
 end-included (says o e r) = ⊎-elim (λ h. omega arith) (λ h. h) (r .right refl)
 end-included (refuses n e) = let z : _≡_ {A = ℕ} 0 5 = ap (λ (a : Answer _). a .no) e in omega arith
+
+-- a `from_ranges` that looks only at the last table
+pub last-only : FromRanges apart 3 2 (0 ∷ 5 ∷ []) (made.Rows 1) → ⊥
+last-only h =
+    let e : made.Refused Full ≡ made.Rows 1 = from-ranges-determined apart 3 2 _ _ _ _ apart-refused h .0 in
+    let z : _≡_ {A = ℕ} 0 1 = cc in
+    omega arith

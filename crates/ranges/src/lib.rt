@@ -10,7 +10,7 @@ ghost use Rattle.tables.specs.Inner.Sweep.{Holds};
 ghost use Rattle.tables.specs.Inner.Unite.{Passed, Ended, Counted, Starts, Ends, Last, Adds, United};
 ghost use Rattle.tables.specs.Inner.Cross.{Keeps};
 ghost use Rattle.tables.specs.Inner.Differ.{GapStart, GapEnd};
-ghost use Rattle.tables.specs.Inner.Edit.{range, Parted, starts, ends, Starting, Ending, Moved, Stands};
+ghost use Rattle.tables.specs.Inner.Edit.{range, Advanced, Parted, starts, ends, Starting, Ending, Moved, Stands};
 ghost use Rattle.ranges.specs.Tables.{most, Merged, Excluded, Intersected, Inserted, Removed, FromRanges, ContainsClock, FindStart, ClockStart, ClockEnd, Len, IsEmpty, Get};
 ghost use Rattle.ranges.specs.Inner.{rowAt, rowsOf, Ruled, Wrote};
 
@@ -34,6 +34,8 @@ pub enum Found {
     Nothing,
     Refused(varint::Refusal),
 }
+
+// ## Rows in a flat slice
 
 // How many rows a lent slice of `len` elements holds.
 fn room(len: usize) -> usize
@@ -80,6 +82,15 @@ fn well_formed(t: &[u32], n: usize) -> bool
     ok
 }
 
+// Whether both tables are well formed.
+fn both(a: &[u32], n: usize, b: &[u32], m: usize) -> bool
+    ensures { λ r. ⌜ Says (Ruled (now (a .entry)) n × Ruled (now (b .entry)) m) r ⌝ }
+{
+    let p = well_formed(a, n);
+    let q = well_formed(b, m);
+    p & q
+}
+
 fn store_start(out: &mut [u32], most: usize, k: usize, x: u32)
     requires { ⌜ 2 * most ≤ length (now out) ⌝ }
     ensures { λ r. ⌜ Starts most (rowAt (now (out .entry))) k x (rowAt (now (out .exit))) ⌝ }
@@ -110,15 +121,6 @@ fn finish(out: &mut [u32], k: usize) -> tables::Made
     tables::Made::Rows(k)
 }
 
-// Whether both tables are well formed.
-fn both(a: &[u32], n: usize, b: &[u32], m: usize) -> bool
-    ensures { λ r. ⌜ Says (Ruled (now (a .entry)) n × Ruled (now (b .entry)) m) r ⌝ }
-{
-    let p = well_formed(a, n);
-    let q = well_formed(b, m);
-    p & q
-}
-
 fn lower(x: u32, y: u32) -> u32
     ensures { λ r. ⌜ r ≡ min x y ⌝ }
 {
@@ -131,191 +133,55 @@ fn higher(x: u32, y: u32) -> u32
     if x < y { y } else { x }
 }
 
-// The next row, where `p` of this one is not past `x`.
-fn passed(i: usize, p: u32, x: u32) -> usize
-    requires { ⌜ i ≤ rowLimit ⌝ }
-    ensures { λ r. ⌜ Passed p x i r ⌝ }
-{
-    if p <= x { i + 1 } else { i }
-}
+// ## Questions
 
-// The end of a row that starts at `x` or before, else 0.
-fn ended(p: u32, x: u32, e: u32) -> u32
-    ensures { λ r. ⌜ Ended p x e r ⌝ }
+// How many rows the table has.
+pub fn len(t: &[u32], n: usize) -> tables::Counted
+    ensures { λ r. ⌜ Len (now (t .entry)) n r ⌝ }
 {
-    if p <= x { e } else { 0 }
-}
-
-// One row more, where it starts past the last.
-fn counted(k: usize, e: u64, x: u32) -> usize
-    requires { ⌜ k ≤ 2 * rowLimit ⌝ }
-    ensures { λ r. ⌜ Counted k e x r ⌝ }
-{
-    if e <= x as u64 { k + 1 } else { k }
-}
-
-// One more than the larger end.
-fn further(e: u64, y: u32) -> u64
-    ensures { λ r. ⌜ r ≡ max e (y + 1) ⌝ }
-{
-    let f = y as u64 + 1;
-    if e < f { f } else { e }
-}
-
-// One row more, which starts where the last of the `k` rows does or behind. What is stored and not counted is written over.
-fn join(out: &mut [u32], most: usize, k: usize, e: u64, x: u32, y: u32) -> usize
-    requires { ⌜ 2 * most ≤ length (now out) ⌝ }
-    requires { ⌜ Last most (rowAt (now out)) k e ⌝ }
-    requires { ⌜ k ≤ 2 * rowLimit ⌝ }
-    requires { ⌜ e ≤ 4294967296 ⌝ }
-    requires { ⌜ x < y ⌝ }
-    ensures { λ r. ⌜ Adds most (rowAt (now (out .entry))) k e x y (rowAt (now (out .exit))) r ⌝ }
-{
-    store_start(out, most, k, x);
-    let r = counted(k, e, x);
-    let f = further(e, y);
-    store_end(out, most, r - 1, (f - 1) as u32);
-    r
-}
-
-// The rows of `a` from `i` on, where `b` has none left.
-fn rest(
-    a: &[u32],
-    n: usize,
-    i0: usize,
-    b: &[u32],
-    m: usize,
-    out: &mut [u32],
-    most: usize,
-    k0: usize,
-    e0: u64,
-) -> usize
-    requires { ⌜ Ruled (now a) n ⌝ }
-    requires { ⌜ Ruled (now b) m ⌝ }
-    requires { ⌜ 2 * most ≤ length (now out) ⌝ }
-    requires { ⌜ United 4294967296 (rowAt (now a)) n i0 (rowAt (now b)) m m most (rowAt (now out)) k0 e0 ⌝ }
-    ensures { λ r. ⌜ Holds most (rowAt (now (out .exit))) r (combined union (rowsOf (now (a .entry)) n) (rowsOf (now (b .entry)) m)) ⌝ }
-{
-    let mut i = i0;
-    let mut k = k0;
-    let mut e = e0;
-    while i < n {
-        let x = start_at(a, i);
-        let y = end_at(a, i);
-        k = join(out, most, k, e, x, y);
-        e = further(e, y);
-        i += 1;
+    if !well_formed(t, n) {
+        return tables::Counted::Refused(varint::Refusal::Malformed);
     }
-    k
+    tables::Counted::Is(n)
 }
 
-// The rows of the union, a row a step, as many as there is room for, and how many there are.
-fn unite(a: &[u32], n: usize, b: &[u32], m: usize, out: &mut [u32], most: usize) -> usize
-    requires { ⌜ Ruled (now a) n ⌝ }
-    requires { ⌜ Ruled (now b) m ⌝ }
-    requires { ⌜ 2 * most ≤ length (now out) ⌝ }
-    ensures { λ r. ⌜ Holds most (rowAt (now (out .exit))) r (combined union (rowsOf (now (a .entry)) n) (rowsOf (now (b .entry)) m)) ⌝ }
+// Whether the table has no row.
+pub fn is_empty(t: &[u32], n: usize) -> tables::Told
+    ensures { λ r. ⌜ IsEmpty (now (t .entry)) n r ⌝ }
 {
-    let mut i: usize = 0;
-    let mut j: usize = 0;
-    let mut k: usize = 0;
-    let mut e: u64 = 0;
-    while i < n {
-        if m <= j {
-            return rest(a, n, i, b, m, out, most, k, e);
-        }
-        let p = start_at(a, i);
-        let q = start_at(b, j);
-        let s = end_at(a, i);
-        let t = end_at(b, j);
-        let x = lower(p, q);
-        i = passed(i, p, x);
-        j = passed(j, q, x);
-        let y = higher(ended(p, x, s), ended(q, x, t));
-        k = join(out, most, k, e, x, y);
-        e = further(e, y);
+    if !well_formed(t, n) {
+        return tables::Told::Refused(varint::Refusal::Malformed);
     }
-    rest(b, m, j, a, n, out, most, k, e)
-}
-
-// The row x, .., y - 1, which is counted if it is not empty, and else written over.
-fn keep(out: &mut [u32], most: usize, k: usize, x: u32, y: u32) -> usize
-    requires { ⌜ 2 * most ≤ length (now out) ⌝ }
-    requires { ⌜ k ≤ 2 * rowLimit ⌝ }
-    ensures { λ r. ⌜ Keeps most (rowAt (now (out .entry))) k x y (rowAt (now (out .exit))) r ⌝ }
-{
-    store_start(out, most, k, x);
-    store_end(out, most, k, y);
-    if x < y { k + 1 } else { k }
-}
-
-// The rows of the intersection, a row a step, as many as there is room for, and how many there are.
-fn cross(a: &[u32], n: usize, b: &[u32], m: usize, out: &mut [u32], most: usize) -> usize
-    requires { ⌜ Ruled (now a) n ⌝ }
-    requires { ⌜ Ruled (now b) m ⌝ }
-    requires { ⌜ 2 * most ≤ length (now out) ⌝ }
-    ensures { λ r. ⌜ Holds most (rowAt (now (out .exit))) r (combined intersection (rowsOf (now (a .entry)) n) (rowsOf (now (b .entry)) m)) ⌝ }
-{
-    let mut i: usize = 0;
-    let mut j: usize = 0;
-    let mut k: usize = 0;
-    while i < n {
-        if m <= j {
-            return k;
-        }
-        let p = end_at(a, i);
-        let q = end_at(b, j);
-        let x = higher(start_at(a, i), start_at(b, j));
-        let y = lower(p, q);
-        i = passed(i, p, y);
-        j = passed(j, q, y);
-        k = keep(out, most, k, x, y);
+    if n == 0 {
+        return tables::Told::Yes;
     }
-    k
+    tables::Told::No
 }
 
-// Where the gap before row `j` starts: behind the row before.
-fn gap_start(b: &[u32], j: usize) -> u32
-    requires { ⌜ 2 * j ≤ length (now b) ⌝ }
-    ensures { λ r. ⌜ GapStart (rowAt (now (b .entry))) j r ⌝ }
+// The first start.
+pub fn clock_start(t: &[u32], n: usize) -> Edge
+    ensures { λ r. ⌜ ClockStart (now (t .entry)) n r ⌝ }
 {
-    if j == 0 {
-        return 0;
+    if !well_formed(t, n) {
+        return Edge::Refused(varint::Refusal::Malformed);
     }
-    end_at(b, j - 1)
+    if n == 0 {
+        return Edge::Nothing;
+    }
+    Edge::At(tables::Clock(start_at(t, 0)))
 }
 
-// Where the gap before row `j` ends. Behind the last of the `m` rows there is a gap too.
-fn gap_end(b: &[u32], m: usize, j: usize) -> u32
-    requires { ⌜ 2 * m ≤ length (now b) ⌝ }
-    ensures { λ r. ⌜ GapEnd 4294967295 (rowAt (now (b .entry))) m j r ⌝ }
+// The last end.
+pub fn clock_end(t: &[u32], n: usize) -> Edge
+    ensures { λ r. ⌜ ClockEnd (now (t .entry)) n r ⌝ }
 {
-    if j < m {
-        return start_at(b, j);
+    if !well_formed(t, n) {
+        return Edge::Refused(varint::Refusal::Malformed);
     }
-    4294967295
-}
-
-// The rows of the difference, a row a step: those of the intersection of `a` with the gaps of `b`. While a row is left, so is a gap.
-fn differ(a: &[u32], n: usize, b: &[u32], m: usize, out: &mut [u32], most: usize) -> usize
-    requires { ⌜ Ruled (now a) n ⌝ }
-    requires { ⌜ Ruled (now b) m ⌝ }
-    requires { ⌜ 2 * most ≤ length (now out) ⌝ }
-    ensures { λ r. ⌜ Holds most (rowAt (now (out .exit))) r (combined difference (rowsOf (now (a .entry)) n) (rowsOf (now (b .entry)) m)) ⌝ }
-{
-    let mut i: usize = 0;
-    let mut j: usize = 0;
-    let mut k: usize = 0;
-    while i < n {
-        let p = end_at(a, i);
-        let q = gap_end(b, m, j);
-        let x = higher(start_at(a, i), gap_start(b, j));
-        let y = lower(p, q);
-        i = passed(i, p, y);
-        j = passed(j, q, y);
-        k = keep(out, most, k, x, y);
+    if n == 0 {
+        return Edge::Nothing;
     }
-    k
+    Edge::At(tables::Clock(end_at(t, n - 1)))
 }
 
 // Whether one of the rows lo, .., hi - 1 holds `x`: each look halves the rows still possible.
@@ -351,6 +217,31 @@ pub fn contains_clock(t: &[u32], n: usize, clock: tables::Clock) -> tables::Told
     tables::Told::No
 }
 
+// `half` where `m` is below `x`, else 0: reckoned, for a branch here would be mispredicted every other time.
+fn advance(m: u32, x: u64, half: usize) -> usize
+    requires { ⌜ x ≤ 4294967296 ⌝ }
+    ensures { λ r. ⌜ Advanced m x half r ⌝ }
+{
+    let below = (9223372036854775807 + x - m as u64) / 9223372036854775808;
+    half * below as usize
+}
+
+// How many rows end below `x`. Each look halves the rows still possible.
+fn ends_below(t: &[u32], n: usize, x: u64) -> usize
+    requires { ⌜ Ruled (now t) n ⌝ }
+    requires { ⌜ x ≤ 4294967296 ⌝ }
+    ensures { λ r. ⌜ Parted (ends (rowAt (now (t .entry)))) n x r r ⌝ }
+{
+    let mut lo: usize = 0;
+    let mut len: usize = n;
+    while 0 < len {
+        let half = len - len / 2;
+        lo = lo + advance(end_at(t, lo + (half - 1)), x, half);
+        len = len - half;
+    }
+    lo
+}
+
 // The first row whose end exceeds the clock.
 pub fn find_start(t: &[u32], n: usize, clock: tables::Clock) -> Place
     ensures { λ r. ⌜ FindStart (now (t .entry)) n (clock .0) r ⌝ }
@@ -366,146 +257,34 @@ pub fn find_start(t: &[u32], n: usize, clock: tables::Clock) -> Place
     Place::At(i)
 }
 
-// The first start.
-pub fn clock_start(t: &[u32], n: usize) -> Edge
-    ensures { λ r. ⌜ ClockStart (now (t .entry)) n r ⌝ }
-{
-    if !well_formed(t, n) {
-        return Edge::Refused(varint::Refusal::Malformed);
-    }
-    if n == 0 {
-        return Edge::Nothing;
-    }
-    Edge::At(tables::Clock(start_at(t, 0)))
-}
+// ## Insert and remove: the rows that the range meets are found by halving, the others are copied.
 
-// The last end.
-pub fn clock_end(t: &[u32], n: usize) -> Edge
-    ensures { λ r. ⌜ ClockEnd (now (t .entry)) n r ⌝ }
-{
-    if !well_formed(t, n) {
-        return Edge::Refused(varint::Refusal::Malformed);
-    }
-    if n == 0 {
-        return Edge::Nothing;
-    }
-    Edge::At(tables::Clock(end_at(t, n - 1)))
-}
-
-// How many rows the table has.
-pub fn len(t: &[u32], n: usize) -> tables::Counted
-    ensures { λ r. ⌜ Len (now (t .entry)) n r ⌝ }
-{
-    if !well_formed(t, n) {
-        return tables::Counted::Refused(varint::Refusal::Malformed);
-    }
-    tables::Counted::Is(n)
-}
-
-// Whether the table has no row.
-pub fn is_empty(t: &[u32], n: usize) -> tables::Told
-    ensures { λ r. ⌜ IsEmpty (now (t .entry)) n r ⌝ }
-{
-    if !well_formed(t, n) {
-        return tables::Told::Refused(varint::Refusal::Malformed);
-    }
-    if n == 0 {
-        return tables::Told::Yes;
-    }
-    tables::Told::No
-}
-
-// The row at an index.
-pub fn get(t: &[u32], n: usize, index: usize) -> Found
-    ensures { λ r. ⌜ Get (now (t .entry)) n index r ⌝ }
-{
-    if !well_formed(t, n) {
-        return Found::Refused(varint::Refusal::Malformed);
-    }
-    if n <= index {
-        return Found::Nothing;
-    }
-    Found::Row(
-        tables::Clock(start_at(t, index)),
-        tables::Clock(end_at(t, index)),
-    )
-}
-
-// Union.
-pub fn merge(a: &[u32], n: usize, b: &[u32], m: usize, out: &mut [u32]) -> tables::Made
-    ensures { λ r. ⌜ Merged (now (a .entry)) n (now (b .entry)) m (length (now (out .entry))) (now (out .exit)) r ⌝ }
-{
-    if !both(a, n, b, m) {
-        tables::zero(out);
-        return tables::Made::Refused(varint::Refusal::Malformed);
-    }
-    let most = room(out.len());
-    let k = unite(a, n, b, m, out, most);
-    finish(out, k)
-}
-
-// Difference.
-pub fn exclude(a: &[u32], n: usize, b: &[u32], m: usize, out: &mut [u32]) -> tables::Made
-    ensures { λ r. ⌜ Excluded (now (a .entry)) n (now (b .entry)) m (length (now (out .entry))) (now (out .exit)) r ⌝ }
-{
-    if !both(a, n, b, m) {
-        tables::zero(out);
-        return tables::Made::Refused(varint::Refusal::Malformed);
-    }
-    let most = room(out.len());
-    let k = differ(a, n, b, m, out, most);
-    finish(out, k)
-}
-
-// Intersection.
-pub fn intersect(a: &[u32], n: usize, b: &[u32], m: usize, out: &mut [u32]) -> tables::Made
-    ensures { λ r. ⌜ Intersected (now (a .entry)) n (now (b .entry)) m (length (now (out .entry))) (now (out .exit)) r ⌝ }
-{
-    if !both(a, n, b, m) {
-        tables::zero(out);
-        return tables::Made::Refused(varint::Refusal::Malformed);
-    }
-    let most = room(out.len());
-    let k = cross(a, n, b, m, out, most);
-    finish(out, k)
-}
-
-// ## Insert, remove and from_ranges: the rows that the range meets are found by halving, the others are copied or moved.
-
-// How many rows end below `x`.
-fn ends_below(t: &[u32], n: usize, x: u64) -> usize
-    requires { ⌜ 2 * n ≤ length (now t) ⌝ }
-    ensures { λ r. ⌜ Parted (ends (rowAt (now (t .entry)))) n x r r ⌝ }
-{
-    let mut lo: usize = 0;
-    let mut hi: usize = n;
-    while lo < hi {
-        let mid = lo + (hi - lo) / 2;
-        if (end_at(t, mid) as u64) < x {
-            lo = mid + 1;
-        } else {
-            hi = mid;
-        }
-    }
-    lo
-}
-
-// How many rows start below `x`, where the first `i` do.
+// How many rows start below `x`, where the first `i` do. Most ranges meet no row or one: these looks come first.
 fn starts_below(t: &[u32], n: usize, i: usize, x: u64) -> usize
-    requires { ⌜ 2 * n ≤ length (now t) ⌝ }
+    requires { ⌜ Ruled (now t) n ⌝ }
+    requires { ⌜ x ≤ 4294967296 ⌝ }
     requires { ⌜ Parted (starts (rowAt (now t))) n x i n ⌝ }
     ensures { λ r. ⌜ Parted (starts (rowAt (now (t .entry)))) n x r r ⌝ }
     ensures { λ r. ⌜ i ≤ r ⌝ }
 {
+    if n <= i {
+        return i;
+    }
+    if x <= start_at(t, i) as u64 {
+        return i;
+    }
+    if n <= i + 1 {
+        return i + 1;
+    }
+    if x <= start_at(t, i + 1) as u64 {
+        return i + 1;
+    }
     let mut lo: usize = i;
-    let mut hi: usize = n;
-    while lo < hi {
-        let mid = lo + (hi - lo) / 2;
-        if (start_at(t, mid) as u64) < x {
-            lo = mid + 1;
-        } else {
-            hi = mid;
-        }
+    let mut len: usize = n - i;
+    while 0 < len {
+        let half = len - len / 2;
+        lo = lo + advance(start_at(t, lo + (half - 1)), x, half);
+        len = len - half;
     }
     lo
 }
@@ -665,6 +444,252 @@ pub fn remove(
     splice(rows, n, i, j, first, last, out)
 }
 
+// ## Merge, exclude and intersect: a row a step, without branches that hang on the rows. The count runs on past the room while nothing more is stored.
+
+// The next row, where `p` of this one is not past `x`.
+fn passed(i: usize, p: u32, x: u32) -> usize
+    requires { ⌜ i ≤ rowLimit ⌝ }
+    ensures { λ r. ⌜ Passed p x i r ⌝ }
+{
+    if p <= x { i + 1 } else { i }
+}
+
+// The end of a row that starts at `x` or before, else 0.
+fn ended(p: u32, x: u32, e: u32) -> u32
+    ensures { λ r. ⌜ Ended p x e r ⌝ }
+{
+    if p <= x { e } else { 0 }
+}
+
+// One row more, where it starts past the last.
+fn counted(k: usize, e: u64, x: u32) -> usize
+    requires { ⌜ k ≤ 2 * rowLimit ⌝ }
+    ensures { λ r. ⌜ Counted k e x r ⌝ }
+{
+    if e <= x as u64 { k + 1 } else { k }
+}
+
+// One more than the larger end.
+fn further(e: u64, y: u32) -> u64
+    ensures { λ r. ⌜ r ≡ max e (y + 1) ⌝ }
+{
+    let f = y as u64 + 1;
+    if e < f { f } else { e }
+}
+
+// One row more, which starts where the last of the `k` rows does or behind. What is stored and not counted is written over.
+fn join(out: &mut [u32], most: usize, k: usize, e: u64, x: u32, y: u32) -> usize
+    requires { ⌜ 2 * most ≤ length (now out) ⌝ }
+    requires { ⌜ Last most (rowAt (now out)) k e ⌝ }
+    requires { ⌜ k ≤ 2 * rowLimit ⌝ }
+    requires { ⌜ e ≤ 4294967296 ⌝ }
+    requires { ⌜ x < y ⌝ }
+    ensures { λ r. ⌜ Adds most (rowAt (now (out .entry))) k e x y (rowAt (now (out .exit))) r ⌝ }
+{
+    store_start(out, most, k, x);
+    let r = counted(k, e, x);
+    let f = further(e, y);
+    store_end(out, most, r - 1, (f - 1) as u32);
+    r
+}
+
+// The rows of `a` from `i` on, where `b` has none left.
+fn rest(
+    a: &[u32],
+    n: usize,
+    i0: usize,
+    b: &[u32],
+    m: usize,
+    out: &mut [u32],
+    most: usize,
+    k0: usize,
+    e0: u64,
+) -> usize
+    requires { ⌜ Ruled (now a) n ⌝ }
+    requires { ⌜ Ruled (now b) m ⌝ }
+    requires { ⌜ 2 * most ≤ length (now out) ⌝ }
+    requires { ⌜ United 4294967296 (rowAt (now a)) n i0 (rowAt (now b)) m m most (rowAt (now out)) k0 e0 ⌝ }
+    ensures { λ r. ⌜ Holds most (rowAt (now (out .exit))) r (combined union (rowsOf (now (a .entry)) n) (rowsOf (now (b .entry)) m)) ⌝ }
+{
+    let mut i = i0;
+    let mut k = k0;
+    let mut e = e0;
+    while i < n {
+        let x = start_at(a, i);
+        let y = end_at(a, i);
+        k = join(out, most, k, e, x, y);
+        e = further(e, y);
+        i += 1;
+    }
+    k
+}
+
+// The rows of the union, a row a step, as many as there is room for, and how many there are.
+fn unite(a: &[u32], n: usize, b: &[u32], m: usize, out: &mut [u32], most: usize) -> usize
+    requires { ⌜ Ruled (now a) n ⌝ }
+    requires { ⌜ Ruled (now b) m ⌝ }
+    requires { ⌜ 2 * most ≤ length (now out) ⌝ }
+    ensures { λ r. ⌜ Holds most (rowAt (now (out .exit))) r (combined union (rowsOf (now (a .entry)) n) (rowsOf (now (b .entry)) m)) ⌝ }
+{
+    let mut i: usize = 0;
+    let mut j: usize = 0;
+    let mut k: usize = 0;
+    let mut e: u64 = 0;
+    while i < n {
+        if m <= j {
+            return rest(a, n, i, b, m, out, most, k, e);
+        }
+        let p = start_at(a, i);
+        let q = start_at(b, j);
+        let s = end_at(a, i);
+        let t = end_at(b, j);
+        let x = lower(p, q);
+        i = passed(i, p, x);
+        j = passed(j, q, x);
+        let y = higher(ended(p, x, s), ended(q, x, t));
+        k = join(out, most, k, e, x, y);
+        e = further(e, y);
+    }
+    rest(b, m, j, a, n, out, most, k, e)
+}
+
+// Union.
+pub fn merge(a: &[u32], n: usize, b: &[u32], m: usize, out: &mut [u32]) -> tables::Made
+    ensures { λ r. ⌜ Merged (now (a .entry)) n (now (b .entry)) m (length (now (out .entry))) (now (out .exit)) r ⌝ }
+{
+    if !both(a, n, b, m) {
+        tables::zero(out);
+        return tables::Made::Refused(varint::Refusal::Malformed);
+    }
+    let most = room(out.len());
+    let k = unite(a, n, b, m, out, most);
+    finish(out, k)
+}
+
+// The row x, .., y - 1, which is counted if it is not empty, and else written over.
+fn keep(out: &mut [u32], most: usize, k: usize, x: u32, y: u32) -> usize
+    requires { ⌜ 2 * most ≤ length (now out) ⌝ }
+    requires { ⌜ k ≤ 2 * rowLimit ⌝ }
+    ensures { λ r. ⌜ Keeps most (rowAt (now (out .entry))) k x y (rowAt (now (out .exit))) r ⌝ }
+{
+    store_start(out, most, k, x);
+    store_end(out, most, k, y);
+    if x < y { k + 1 } else { k }
+}
+
+// Where the gap before row `j` starts: behind the row before.
+fn gap_start(b: &[u32], j: usize) -> u32
+    requires { ⌜ 2 * j ≤ length (now b) ⌝ }
+    ensures { λ r. ⌜ GapStart (rowAt (now (b .entry))) j r ⌝ }
+{
+    if j == 0 {
+        return 0;
+    }
+    end_at(b, j - 1)
+}
+
+// Where the gap before row `j` ends. Behind the last of the `m` rows there is a gap too.
+fn gap_end(b: &[u32], m: usize, j: usize) -> u32
+    requires { ⌜ 2 * m ≤ length (now b) ⌝ }
+    ensures { λ r. ⌜ GapEnd 4294967295 (rowAt (now (b .entry))) m j r ⌝ }
+{
+    if j < m {
+        return start_at(b, j);
+    }
+    4294967295
+}
+
+// The rows of the difference, a row a step: those of the intersection of `a` with the gaps of `b`. While a row is left, so is a gap.
+fn differ(a: &[u32], n: usize, b: &[u32], m: usize, out: &mut [u32], most: usize) -> usize
+    requires { ⌜ Ruled (now a) n ⌝ }
+    requires { ⌜ Ruled (now b) m ⌝ }
+    requires { ⌜ 2 * most ≤ length (now out) ⌝ }
+    ensures { λ r. ⌜ Holds most (rowAt (now (out .exit))) r (combined difference (rowsOf (now (a .entry)) n) (rowsOf (now (b .entry)) m)) ⌝ }
+{
+    let mut i: usize = 0;
+    let mut j: usize = 0;
+    let mut k: usize = 0;
+    while i < n {
+        let p = end_at(a, i);
+        let q = gap_end(b, m, j);
+        let x = higher(start_at(a, i), gap_start(b, j));
+        let y = lower(p, q);
+        i = passed(i, p, y);
+        j = passed(j, q, y);
+        k = keep(out, most, k, x, y);
+    }
+    k
+}
+
+// Difference.
+pub fn exclude(a: &[u32], n: usize, b: &[u32], m: usize, out: &mut [u32]) -> tables::Made
+    ensures { λ r. ⌜ Excluded (now (a .entry)) n (now (b .entry)) m (length (now (out .entry))) (now (out .exit)) r ⌝ }
+{
+    if !both(a, n, b, m) {
+        tables::zero(out);
+        return tables::Made::Refused(varint::Refusal::Malformed);
+    }
+    let most = room(out.len());
+    let k = differ(a, n, b, m, out, most);
+    finish(out, k)
+}
+
+// The rows of the intersection, a row a step, as many as there is room for, and how many there are.
+fn cross(a: &[u32], n: usize, b: &[u32], m: usize, out: &mut [u32], most: usize) -> usize
+    requires { ⌜ Ruled (now a) n ⌝ }
+    requires { ⌜ Ruled (now b) m ⌝ }
+    requires { ⌜ 2 * most ≤ length (now out) ⌝ }
+    ensures { λ r. ⌜ Holds most (rowAt (now (out .exit))) r (combined intersection (rowsOf (now (a .entry)) n) (rowsOf (now (b .entry)) m)) ⌝ }
+{
+    let mut i: usize = 0;
+    let mut j: usize = 0;
+    let mut k: usize = 0;
+    while i < n {
+        if m <= j {
+            return k;
+        }
+        let p = end_at(a, i);
+        let q = end_at(b, j);
+        let x = higher(start_at(a, i), start_at(b, j));
+        let y = lower(p, q);
+        i = passed(i, p, y);
+        j = passed(j, q, y);
+        k = keep(out, most, k, x, y);
+    }
+    k
+}
+
+// Intersection.
+pub fn intersect(a: &[u32], n: usize, b: &[u32], m: usize, out: &mut [u32]) -> tables::Made
+    ensures { λ r. ⌜ Intersected (now (a .entry)) n (now (b .entry)) m (length (now (out .entry))) (now (out .exit)) r ⌝ }
+{
+    if !both(a, n, b, m) {
+        tables::zero(out);
+        return tables::Made::Refused(varint::Refusal::Malformed);
+    }
+    let most = room(out.len());
+    let k = cross(a, n, b, m, out, most);
+    finish(out, k)
+}
+
+// The row at an index.
+pub fn get(t: &[u32], n: usize, index: usize) -> Found
+    ensures { λ r. ⌜ Get (now (t .entry)) n index r ⌝ }
+{
+    if !well_formed(t, n) {
+        return Found::Refused(varint::Refusal::Malformed);
+    }
+    if n <= index {
+        return Found::Nothing;
+    }
+    Found::Row(
+        tables::Clock(start_at(t, index)),
+        tables::Clock(end_at(t, index)),
+    )
+}
+
+// ## from_ranges: in the output itself.
+
 // The rows from `i` on, one row up: from the back, so that none is written over.
 fn move_up(out: &mut [u32], i: usize, k: usize)
     requires { ⌜ i ≤ k ⌝ }
@@ -714,7 +739,8 @@ fn shift(out: &mut [u32], i: usize, j: usize, k: usize)
 
 // How many rows end below `x`: at once where all do, or all but the last.
 fn tail_below(t: &[u32], n: usize, x: u64) -> usize
-    requires { ⌜ 2 * n ≤ length (now t) ⌝ }
+    requires { ⌜ Ruled (now t) n ⌝ }
+    requires { ⌜ x ≤ 4294967296 ⌝ }
     ensures { λ r. ⌜ Parted (ends (rowAt (now (t .entry)))) n x r r ⌝ }
 {
     if n < 2 {

@@ -5,6 +5,7 @@ use Prim.Native.Nat.{ℕ, zero, suc, _+_, _-_, _*_, _^_, _≤_, _<_}
 use native.Mathlib.Omega.{arith}
 use lib.ListN.{length, getD, take, drop, length-append, take-append-drop}
 use borrow.Author.Tests.{lt-leb}
+use Rattle.tables.specs.Limits.{vectorLimit}
 use Rattle.varint.specs.Number.{bytesOf, Written, unwritten, writeAt}
 use Rattle.varint.specs.Answer.{noOf, wrote}
 use Rattle.varint.specs.declared.Refusal.the-variants.{Full}
@@ -37,7 +38,7 @@ rows-most [] w = omega arith
 rows-most (r ∷ t) w = omega (arith, row-length r t, client-bytes (r .client) (w .0), clock-bytes (r .clock) (w .1), rows-most t (w .2))
 
 -- A VECTOR HAS AT MOST 3,842 BYTES
-pub encoded-most : (t : List Row) → Words t → length t ≤ 256 → length (encoded t) ≤ 3842
+pub encoded-most : (t : List Row) → Words t → length t ≤ vectorLimit → length (encoded t) ≤ 3842
 unfolding encoded
 encoded-most t w h = simp length-append (omega (arith, bytes-most 1 (length t) (omega arith), rows-most t w))
 
@@ -67,7 +68,7 @@ next-bytes : (f : ℕ → Row) (n i : ℕ) → i < n → rowBytes (span f i (n -
 unfolding rowBytes
 next-bytes f n i h = ap rowBytes (span-cons f n i h)
 
-pub summing-none : (f : ℕ → Row) (n sum : ℕ) → n ≤ 256 → sum ≡ length (bytesOf n) → Summing f n 0 sum
+pub summing-none : (f : ℕ → Row) (n sum : ℕ) → n ≤ vectorLimit → sum ≡ length (bytesOf n) → Summing f n 0 sum
 summing-none f n sum h e = record {
   high = omega arith;
   few = omega (arith, bytes-most 1 n (omega arith));

@@ -6,6 +6,7 @@ use Prim.Native.Nat.{ℕ, zero, suc, _+_, _-_, _≤_, _<_, max}
 use native.Mathlib.Nat.{le-of-suc-le-suc, not-suc-le-zero, add-zero}
 use native.Mathlib.Omega.{arith}
 use lib.ListN.{length, getD, take, drop, set}
+use Rattle.tables.specs.Limits.{vectorLimit}
 use Rattle.state_vector.specs.Rows.{Row, row, First, Rising}
 use Rattle.state_vector.specs.Vectors.{Slices, two, held, rowsOf, Table}
 use Rattle.state_vector.specs.Inner.{Climbs, rowAt, span, put}
@@ -166,5 +167,5 @@ module _ {cs : List ℕ} {n : ℕ} where
   pub climbs-rising : (ks : List ℕ) → Climbs cs n → Rising (span (rowAt (two cs ks)) 0 n)
   climbs-rising ks t = span-rising (rowAt (two cs ks)) 0 n (λ j _ h. t .up j (omega arith))
 
-  pub climbs-table : {ks : List ℕ} → n ≤ 256 → n ≤ length cs → n ≤ length ks → Climbs cs n → Table (held cs ks n)
+  pub climbs-table : {ks : List ℕ} → n ≤ vectorLimit → n ≤ length cs → n ≤ length ks → Climbs cs n → Table (held cs ks n)
   climbs-table {ks} a b c t = record { few = omega arith; rising = subst Rising (sym (rows-span n cs ks b c)) (climbs-rising ks t) }

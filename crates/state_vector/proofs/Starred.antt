@@ -7,6 +7,7 @@ use native.Mathlib.Omega.{arith}
 use mathlib.Core.Bool.{Bool, true, false, cond}
 use lib.Dec.{eqb}
 use lib.ListN.{length}
+use Rattle.tables.specs.Limits.{vectorLimit}
 use Rattle.varint.specs.Number.{andThen, reads, readAt, written, bytesOf}
 use Rattle.state_vector.specs.Rows.{Row, row, In, at, VectorOf, Verdict, less, equal, greater, none, Compare}
 use Rattle.state_vector.specs.Bytes.{rowBytes, encoded, stored, Pairs, read, pairsAt, vectorAt}
@@ -24,7 +25,7 @@ pub data Example : Type 0 where
 
 abbrev pub Holds : Example → Type 0
 Holds (encodes t bs) = encoded t ≡ bs
-Holds (decodes bs t) = (vectorAt 256 bs 0 ≡ read t (length bs)) × VectorOf (In t) (at t) t
+Holds (decodes bs t) = (vectorAt vectorLimit bs 0 ≡ read t (length bs)) × VectorOf (In t) (at t) t
 Holds (compares a b v) = Compare a b v
 Holds (differ a b) = a ≡ b → ⊥
 

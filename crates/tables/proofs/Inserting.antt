@@ -4,14 +4,14 @@ use mathlib.Core.Path.{_≡_, refl, ap, ap₂, sym, subst, _∙_}
 use mathlib.Core.Logic.{_⊎_, inl, inr, ⊎-elim}
 use mathlib.Core.List.{List, [], _∷_, _++_, append-nil, append-assoc}
 use mathlib.Core.Bool.{Bool, true, false, cond, _&&_}
-use Prim.Native.Nat.{ℕ, zero, suc, _+_, _-_, _≤_, _<_, min, max}
+use Prim.Native.Nat.{ℕ, zero, suc, _+_, _-_, _*_, _/_, _≤_, _<_, min, max}
 use native.Mathlib.Omega.{arith}
 use native.Mathlib.Nat.{add-zero}
 use lib.Dec.{leb, ltb}
 use lib.ListN.{length, length-append}
 use borrow.Author.Tests.{lt-ltb, le-ltb}
 use Rattle.tables.specs.Inner.Rows.{Row, Rows, at, JoinedFrom, Joined, combined, union, difference, span, Follows}
-use Rattle.tables.specs.Inner.Edit.{Plain, range, Parted, starts, ends, Starting, Ending}
+use Rattle.tables.specs.Inner.Edit.{Plain, range, Advanced, Parted, starts, ends, Starting, Ending}
 use Rattle.tables.proofs.Joining.{split, at-here, at-past, at-before}
 use Rattle.tables.proofs.Meaning.{combined-joined, combined-at, combined-only}
 use Rattle.tables.proofs.Pushing.{piece}
@@ -39,6 +39,40 @@ module _ {mark : ℕ → ℕ} {n x lo hi : ℕ} (mid : ℕ) where
   pub parted-left : Parted mark n x lo hi → lo ≤ mid → mid < hi → x ≤ mark mid → Parted mark n x lo mid
   parted-left p a b h = record { order = a; within = omega (arith, p .within); below = p .below; above = λ _. h }
 
+-- marks rise
+abbrev pub Rising : (ℕ → ℕ) → ℕ → Type 0
+Rising mark n = (k j : ℕ) → k ≤ j → j < n → mark k ≤ mark j
+
+-- a look at the last mark of the front half: as many marks are left possible either way
+pub parted-half : {mark : ℕ → ℕ} {n x lo len r : ℕ} (half : ℕ) → Rising mark n → half ≡ len - len / 2 → 0 < len → Parted mark n x lo (lo + len)
+    → Advanced (mark (lo + (half - 1))) x half r → Parted mark n x (lo + r) (lo + r + (len - half))
+parted-half {mark} {n} {x} {lo} {len} {r} half up e l p a = ⊎-elim on off (split (mark (lo + (half - 1))) x)
+  where
+    on : mark (lo + (half - 1)) < x → Parted mark n x (lo + r) (lo + r + (len - half))
+    on h =
+        let z : r ≡ half = a .on h in
+        let y : lo + len ≡ lo + r + (len - half) = omega arith in
+        record {
+          order = omega arith;
+          within = omega (arith, p .within);
+          below = λ k d. subst (λ (j : ℕ). mark j < x) (let w : lo + (half - 1) ≡ k = omega arith in w) h;
+          above = λ m. subst (λ (j : ℕ). x ≤ mark j) y (p .above (omega arith));
+        }
+
+    off : x ≤ mark (lo + (half - 1)) → Parted mark n x (lo + r) (lo + r + (len - half))
+    off h =
+        let z : r ≡ 0 = a .off h in
+        let y : lo ≡ lo + r = omega arith in
+        record {
+          order = omega arith;
+          within = omega (arith, p .within);
+          below = λ k d. p .below k (omega arith);
+          above = λ m. omega (arith, up (lo + (half - 1)) (lo + r + (len - half)) (omega arith) m);
+        }
+
+pub parted-to : {mark : ℕ → ℕ} {n x lo hi hi′ : ℕ} → hi ≡ hi′ → Parted mark n x lo hi → Parted mark n x lo hi′
+parted-to {mark} {n} {x} {lo} e p = subst (λ (h : ℕ). Parted mark n x lo h) e p
+
 -- a place that two looks settle
 pub parted-at : {mark : ℕ → ℕ} {n x i : ℕ} (m : ℕ) → suc m ≡ i → i ≤ n → mark m < x → (i < n → x ≤ mark i) → Parted mark n x i i
 parted-at {mark} {n} {x} {i} m e h l g =
@@ -47,6 +81,20 @@ parted-at {mark} {n} {x} {i} m e h l g =
 -- the two ends met
 pub parted-met : {mark : ℕ → ℕ} {n x lo hi : ℕ} → Parted mark n x lo hi → hi ≤ lo → Parted mark n x lo lo
 parted-met {mark} {n} {x} {lo} {hi} p h = subst (λ (k : ℕ). Parted mark n x lo k) (let z : hi ≡ lo = omega (arith, p .order) in z) p
+
+-- half times 1 where m is below x, and else times 0
+pub advanced : (m x half : ℕ) → m < 4294967296 → x ≤ 4294967296 → Advanced m x half (half * ((9223372036854775807 + x - m) / 9223372036854775808))
+advanced m x half a b =
+    record {
+      on = λ h. ap (λ (v : ℕ). half * v) (let z : (9223372036854775807 + x - m) / 9223372036854775808 ≡ 1 = omega arith in z) ∙ (let z : half * 1 ≡ half = omega arith in z);
+      off = λ h. ap (λ (v : ℕ). half * v) (let z : (9223372036854775807 + x - m) / 9223372036854775808 ≡ 0 = omega arith in z) ∙ (let z : half * 0 ≡ 0 = omega arith in z);
+    }
+
+pub advanced-at : {m m′ x half r : ℕ} → m ≡ m′ → Advanced m x half r → Advanced m′ x half r
+advanced-at {x = x} {half = half} {r = r} e a = subst (λ (v : ℕ). Advanced v x half r) e a
+
+pub advanced-most : {m x half r : ℕ} → Advanced m x half r → r ≤ half
+advanced-most {m} {x} a = ⊎-elim (λ h. omega (arith, a .on h)) (λ h. omega (arith, a .off h)) (split m x)
 
 -- ## Joined rows behind a place
 
@@ -154,6 +202,16 @@ module _ (row : ℕ → Row) (n : ℕ) (t : Plain row n) where
   apart-to k j h l =
       let z : suc (k + (j - suc k)) ≡ j = omega arith in
       subst (λ (m : ℕ). row k .end < row m .start) z (apart k (j - suc k) (omega arith))
+
+  pub ends-rising : Rising (ends row) n
+  ends-rising k j h l = ⊎-elim
+      (λ z. omega (arith, apart-to k j z l, t .ruled j l .filled))
+      (λ z. let e : k ≡ j = omega arith in omega (arith, ap (λ (m : ℕ). row m .end) e)) (split k j)
+
+  pub starts-rising : Rising (starts row) n
+  starts-rising k j h l = ⊎-elim
+      (λ z. omega (arith, apart-to k j z l, t .ruled k (omega arith) .filled))
+      (λ z. let e : k ≡ j = omega arith in omega (arith, ap (λ (m : ℕ). row m .start) e)) (split k j)
 
   -- the front rows with joined rows behind them
   front-joined : (c : ℕ) (ys : Rows) → From c ys → (a k lo w : ℕ) → a + k ≤ n → ((j : ℕ) → a ≤ j → j < a + k → row j .end < c)

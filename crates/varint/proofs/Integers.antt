@@ -1,7 +1,7 @@
 -- The laws of signed numbers: their reader's loop, their bytes, and what a number's sign and size are in two's complement. Assumes nothing.
 use Prim.Native.Nat.{ℕ, zero, suc, _+_, _-_, _*_, _/_, _%_, _^_, _≤_, _<_}
 use mathlib.Core.Path.{_≡_, refl, sym, ap, _∙_}
-use mathlib.Core.Bool.{Bool, true, false, cond}
+use mathlib.Core.Bool.{Bool, true, false, cond, true≢false}
 use mathlib.Core.List.{List, [], _∷_}
 use mathlib.Core.Logic.{⊎-elim}
 use native.Mathlib.Nat.{add-zero, mul-one, mod-eq-of-lt, lt-irrefl}
@@ -113,11 +113,11 @@ natAbs-below (negsuc n) h = omega arith
 
 pub natAbs-above : (v : ℤ) → ltZ v (pos 0) ≡ false → mag v ≡ natAbs v
 natAbs-above (pos a) h = refl
-natAbs-above (negsuc n) h = absurd (lt-irrefl 0 (let z : _≡_ {A = ℕ} 0 1 = cc in omega arith))
+natAbs-above (negsuc n) h = absurd (true≢false h)
 
 pub nonNeg-above : (v : ℤ) → ltZ v (pos 0) ≡ false → T (nonNeg v)
 nonNeg-above (pos a) h = tt
-nonNeg-above (negsuc n) h = absurd (lt-irrefl 0 (let z : _≡_ {A = ℕ} 0 1 = cc in omega arith))
+nonNeg-above (negsuc n) h = absurd (true≢false h)
 
 -- What the code calls a number v, after it went through its bits at a width.
 abbrev pub bitsOf : Width → ℤ → ℤ

@@ -174,6 +174,55 @@ fn id_line(l: &mut List, c: &Case) {
     };
     l.add_in_block(line, answer)
 }
+/// The program takes as many rows as it counts, one room for both slices, and 65,536 bytes in all.
+fn vector_line(l: &mut List, c: &Case) {
+    let mut c = c.clone();
+    for t in [&mut c.a, &mut c.b] {
+        if t.n > t.longs.len().min(t.ints.len()) { return }
+        t.longs.truncate(t.n);
+        t.ints.truncate(t.n);
+    }
+    let room = c.out.longs.len().min(c.out.ints.len()).min(9);
+    if c.op.gives_table() { c.out = gen::room(Kind::Vector, room, 0) }
+    if c.op == VecEncode { c.bytes = vec![238; c.bytes.len()] }
+    if c.a.n.max(c.b.n) > 300 || c.bytes.len() > 4096 { return }
+    let t = |t: &Table| format!("{}{}", t.n, (0..t.n).map(|i| format!(" {} {}", t.longs[i], t.ints[i])).collect::<String>());
+    let a = right(&c);
+    let rows = || (0..room).map(|i| format!(" {} {}", a.out.longs[i], a.out.ints[i])).collect::<String>();
+    let made = || format!("{} {}{}", a.no, a.out.n, rows());
+    let (x, y) = (t(&c.a), t(&c.b));
+    let (line, answer) = match c.op {
+        VecGet => (format!("g {x} {}", c.client), count(&a)),
+        VecSetMin => (format!("i {room} {x} {} {}", c.client, c.start), made()),
+        VecSetMax => (format!("a {room} {x} {} {}", c.client, c.start), made()),
+        VecMerge => (format!("m {room} {x} {y}"), made()),
+        VecDecode => (format!("d {room} {}{}", c.at, words(&c.bytes)), format!("{} {} {}{}", a.no, a.out.n, a.next, rows())),
+        VecEncode => (format!("e {} {} {x}", c.bytes.len(), c.at), format!("{} {}{}", a.no, a.next, words(&a.bytes))),
+        VecCompare => (format!("c {x} {y}"), count(&a)),
+        _ => unreachable!(),
+    };
+    l.add(line, answer)
+}
+fn vectors() -> List {
+    let mut l = List::default();
+    // document 01's bytes and rows to try
+    let v = |rows: &[(u64, u32)]| gen::vec_table(rows);
+    let with = |op: Op, f: &dyn Fn(&mut Case)| { let mut c = Case::of(op); c.out = gen::room(Kind::Vector, 3, 0); f(&mut c); c };
+    let cases = [
+        with(VecEncode, &|c| { c.a = v(&[(1, 4), (300, 0)]); c.bytes = vec![0; 8] }),
+        with(VecDecode, &|c| c.bytes = vec![2, 7, 1, 7, 5]),
+        with(VecDecode, &|c| c.bytes = vec![2, 1, 4, 0xac, 2, 0]),
+        with(VecCompare, &|c| c.a = v(&[(9, 0)])),
+        with(VecCompare, &|c| { c.a = v(&[(1, 2), (2, 1)]); c.b = v(&[(1, 1), (2, 2)]) }),
+        with(VecSetMin, &|c| { c.client = 3; c.start = 9 }),
+    ];
+    for c in &cases { vector_line(&mut l, c) }
+    let mut r = Rng(4);
+    let mut i = 0;
+    while l.stdin.len() < 62000 { gen::random_vector(&mut r, 1 + i % 4, &mut |c| vector_line(&mut l, c)); i += 1 }
+    assert!(l.stdin.len() < 65536);
+    l
+}
 /// Document 01's rows to try, as ranges and as ids of client 1.
 fn examples(l: &mut List, line: fn(&mut List, &Case), kind: Kind) {
     let t = |rows: &[(u32, u32)]| {
@@ -211,5 +260,6 @@ fn main() {
     let has = |name: &str| std::path::Path::new(&format!("{root}/crates/{name}")).exists();
     if has("replay_numbers") { numbers().write(&root, "replay_numbers") }
     if has("replay_ranges") { tables(2, Kind::Range, gen::random_range, range_line, 150, &[12, 25, 40, 64]).write(&root, "replay_ranges") }
+    if has("replay_vectors") { vectors().write(&root, "replay_vectors") }
     if has("replay_ids") { tables(3, Kind::Id, gen::random_id, id_line, 220, &[12, 25, 40, 64]).write(&root, "replay_ids") }
 }

@@ -25,7 +25,7 @@ add-ends-below : tie.Need-add-ends-below
 add-ends-below c = search needs
 
 ends-below-requires : tie.Need-ends-below-requires
-ends-below-requires c κs = let t = c .before .well-formed .ensures .right (not-false _ (c .if1 .left)) in omega (arith, t .fits)
+ends-below-requires c κs = let t = c .before .well-formed .ensures .right (not-false _ (c .if1 .left)) in (t, omega arith)
 
 returns-2 : tie.Need-returns-2
 returns-2 c = told (c .before .before .before .well-formed .ensures) (not-false _ (c .before .before .if1 .left)) none (found-none _ _ _ _ (c .before .ends-below .ensures) (c .if2 .taken))

@@ -21,13 +21,13 @@ returns : tie.Need-returns
 returns c = grown-same (c .before .before .pre) (c .before .before .args .s) (c .before .before .args .e) (omega arith)
 
 tail-below-requires : tie.Need-tail-below-requires
-tail-below-requires c κs = search needs
+tail-below-requires c κs = (c .before .before .before .pre, omega arith)
 
 add-starts-below : tie.Need-add-starts-below
 add-starts-below c = search needs
 
 starts-below-requires : tie.Need-starts-below-requires
-starts-below-requires c κs = (omega (arith, c .before .before .before .before .before .pre .fits), parted-from _ (ruled-plain (c .before .before .before .before .before .pre)) (c .before .tail-below .ensures) (omega arith))
+starts-below-requires c κs = (c .before .before .before .before .before .pre, (omega arith, parted-from _ (ruled-plain (c .before .before .before .before .before .pre)) (c .before .tail-below .ensures) (omega arith)))
 
 start-or-requires : tie.Need-start-or-requires
 start-or-requires c κs = search needs

@@ -11,7 +11,7 @@ use Rattle.ranges.proofs.end_at.Reads as end-at-reads
 use Rattle.ranges.proofs.ends_below.Reads as ends-below-reads
 
 ends-below-requires : tie.Need-ends-below-requires
-ends-below-requires c κs = search needs
+ends-below-requires c κs = c .before .before .pre
 
 returns : tie.Need-returns
 returns c = search needs
@@ -20,7 +20,7 @@ sub-end-at : tie.Need-sub-end-at
 sub-end-at c = search needs
 
 end-at-requires : tie.Need-end-at-requires
-end-at-requires c κs = search needs
+end-at-requires c κs = omega (arith, c .before .before .pre .0 .fits)
 
 cast-if2 : tie.Need-cast-if2
 cast-if2 c = search needs
@@ -29,7 +29,7 @@ returns-2 : tie.Need-returns-2
 returns-2 c = parted-at (c .before .before .before .before .args .n - 1) (omega arith) (omega arith) (omega (arith, c .before .end-at .ensures)) (λ h. absurd (omega arith))
 
 end-at-requires-2 : tie.Need-end-at-requires-2
-end-at-requires-2 c κs = search needs
+end-at-requires-2 c κs = omega (arith, c .before .before .before .before .pre .0 .fits)
 
 cast-if3 : tie.Need-cast-if3
 cast-if3 c = search needs
@@ -41,7 +41,7 @@ returns-3 : tie.Need-returns-3
 returns-3 c = parted-at (c .before .before .before .before .before .before .args .n - 2) (omega arith) (omega arith) (omega (arith, c .before .end-at2 .ensures)) (λ h. omega (arith, c .before .before .before .end-at .ensures))
 
 ends-below-requires-2 : tie.Need-ends-below-requires-2
-ends-below-requires-2 c κs = search needs
+ends-below-requires-2 c κs = c .before .before .before .before .before .before .pre
 
 returns-4 : tie.Need-returns-4
 returns-4 c = search needs

@@ -23,6 +23,11 @@ pub record Parted (mark : ℕ → ℕ) (n x lo hi : ℕ) : Type 0 where
   pub below : (k : ℕ) → suc k ≡ lo → mark k < x
   pub above : hi < n → x ≤ mark hi
 
+-- half where m is below x, else 0
+pub record Advanced (m x half r : ℕ) : Type 0 where
+  pub on : m < x → r ≡ half
+  pub off : x ≤ m → r ≡ 0
+
 abbrev pub starts : (ℕ → Row) → ℕ → ℕ
 starts row k = row k .start
 

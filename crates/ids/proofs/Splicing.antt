@@ -1,0 +1,174 @@
+-- An insert finds its place, and lays one row there in the place of those that it meets. Assumes nothing.
+use mathlib.Core.Logic.{_⊎_, inl, inr, ⊎-elim}
+use mathlib.Core.Path.{_≡_, refl, ap, ap₂, sym, subst, _∙_}
+use mathlib.Core.Bool.{Bool, true}
+use mathlib.Core.List.{List, [], _∷_, _++_, append-nil}
+use Prim.Native.Nat.{ℕ, zero, suc, _+_, _-_, _*_, _≤_, _<_, max, min}
+use native.Mathlib.Omega.{arith}
+use lib.Dec.{lit≤}
+use lib.ListN.{length, getD, set, length-set}
+use lib.Seq.{getD-set-same, getD-set-other}
+use Rattle.tables.specs.Answers.{Says}
+use Rattle.tables.specs.Inner.Rows as inner
+use Rattle.tables.specs.Inner.Rows.{span, combined}
+use Rattle.tables.specs.Inner.Sweep.{Holds}
+use Rattle.tables.specs.Inner.Edit.{Plain, range, Parted, starts, ends, Starting, Ending, Moved, Stands}
+use Rattle.tables.proofs.Joining.{split}
+use Rattle.tables.proofs.Pushing.{piece, row-is}
+use Rattle.tables.proofs.Inserting.{inserted, range-one}
+use Rattle.tables.proofs.Placing.{laid-holds, laid-over}
+use Rattle.tables.proofs.Saying.{says-yes}
+use Rattle.ids.specs.Inner.{numberOf, idRow, idRows, IdTable, Both, marks, Leads, Trails, Shifted, Spliced}
+use Rattle.ids.specs.Tables.{held, Table}
+use Rattle.ids.proofs.Numbering.{Narrow, table-up}
+
+-- ## Elements copied one by one
+
+pub record Copied (src : List ℕ) (from : ℕ) (out₀ : List ℕ) (to i : ℕ) (out : List ℕ) : Type 0 where
+  pub same : length out ≡ length out₀
+  pub before2 : (x : ℕ) → x < to → getD out x 0 ≡ getD out₀ x 0
+  pub there : (x : ℕ) → x < i → getD out (to + x) 0 ≡ getD src (from + x) 0
+
+pub copied-none : (src : List ℕ) (from : ℕ) (out : List ℕ) (to : ℕ) → Copied src from out to 0 out
+copied-none src from out to = record { same = refl; before2 = λ x h. refl; there = λ x h. absurd (omega arith) }
+
+pub copied-more : {src out₀ out : List ℕ} {from to i : ℕ} → Copied src from out₀ to i out → to + i < length out₀ → Copied src from out₀ to (i + 1) (set out (to + i) (getD src (from + i) 0))
+copied-more {src} {out₀} {out} {from} {to} {i} c h =
+    record {
+      same = simp length-set (c .same);
+      before2 = λ x l. getD-set-other out (to + i) x _ 0 (omega arith) ∙ c .before2 x l;
+      there = λ x l. ⊎-elim
+          (λ m. getD-set-other out (to + i) (to + x) _ 0 (omega arith) ∙ c .there x m)
+          (λ m. ap (λ (y : ℕ). getD (set out (to + i) (getD src (from + i) 0)) (to + y) 0) (let z : x ≡ i = omega arith in z)
+          ∙ (getD-set-same out (to + i) _ 0 (omega (arith, c .same)) ∙ ap (λ (y : ℕ). getD src (from + y) 0) (let z : i ≡ x = omega arith in z)))
+          (split x i);
+    }
+
+pub copied-all : {src out₀ out : List ℕ} {a b to i : ℕ} → Copied src a out₀ to i out → b - a ≤ i → Shifted src a b out₀ to out
+copied-all c h = record { below = c .before2; there = λ x l. c .there x (omega arith) }
+
+-- a front, one element, and a back
+pub spliced : {src out out₁ out₃ : List ℕ} {n i j v : ℕ} → Shifted src 0 i out 0 out₁ → i < length out₁ → Shifted src j n (set out₁ i v) (i + 1) out₃ → Spliced src n i j v out₃
+spliced {src} {out} {out₁} {out₃} {n} {i} {j} {v} a h b =
+    record {
+      front = λ x l. b .below x (omega arith) ∙ (getD-set-other out₁ i x v 0 (omega arith) ∙ from x l);
+      here = b .below i (omega arith) ∙ getD-set-same out₁ i v 0 h;
+      back = b .there;
+    }
+  where
+    from : (x : ℕ) → x < i → getD out₁ x 0 ≡ getD src x 0
+    from x l = subst (λ (y : ℕ). getD out₁ y 0 ≡ getD src y 0) (let z : 0 + x ≡ x = omega arith in z) (a .there x (omega arith))
+
+-- ## The row that is put in
+
+module _ (cs ss es : List ℕ) (f : Narrow ss) (g : Narrow es) (n : ℕ) (t : IdTable cs ss es n) where
+  pub plain : Plain (idRow cs ss es) n
+  plain =
+      record {
+        unit = λ _. refl;
+        ruled = λ j h. record {
+          filled = omega (arith, t .filled j h);
+          apart = λ l. subst (λ (v : ℕ). idRow cs ss es (j - 1) .end < idRow cs ss es v .start) (let z : j - 1 + 1 ≡ j = omega arith in z) (t .apart (j - 1) (omega arith));
+        };
+      }
+
+  -- the row's start, with the start of the first row that it meets
+  record First (i c s r : ℕ) : Type 0 where
+    place : ℕ
+    starting : Starting (idRow cs ss es) n i (numberOf c s) place
+    is : numberOf c r ≡ min place (numberOf c s)
+
+  first : (i c s r : ℕ) → s < 4294967296 → Parted (ends (idRow cs ss es)) n (numberOf c s) i i → Leads cs ss n i c s r → First i c s r
+  first i c s r h u l = ⊎-elim
+      (λ o. record {
+        place = numberOf (getD cs i 0) (getD ss i 0);
+        starting = record { here = λ _. refl; none = λ z. absurd (omega arith) };
+        is = ⊎-elim (λ z. let w : getD cs i 0 ≡ c = omega (arith, u .above o, f i, g i) in omega (arith, l .here o z)) (λ z. omega (arith, l .later o z)) (split (numberOf (getD cs i 0) (getD ss i 0)) (numberOf c s));
+      })
+      (λ o. record { place = numberOf c s; starting = record { here = λ z. absurd (omega arith); none = λ _. refl }; is = omega (arith, l .none o) })
+      (split i n)
+
+  -- and its end, with the end of the last row that it meets
+  record Last (j c e r : ℕ) : Type 0 where
+    place : ℕ
+    ending : Ending (idRow cs ss es) j (numberOf c e) place
+    is : numberOf c r ≡ max (numberOf c e) place
+
+  last : (j c e r : ℕ) → e < 4294967296 → Parted (starts (idRow cs ss es)) n (numberOf c e + 1) j j → Trails cs es j c e r → Last j c e r
+  last zero c e r h v l = record { place = numberOf c e; ending = record { here = λ k z. absurd (omega arith); none = λ _. refl }; is = omega (arith, l .none refl) }
+  last (suc k) c e r h v l =
+      record {
+        place = numberOf (getD cs k 0) (getD es k 0);
+        ending = record { here = λ x z. ap (λ (y : ℕ). numberOf (getD cs y 0) (getD es y 0)) (let w : k ≡ x = omega arith in w); none = λ z. absurd (omega arith) };
+        is = ⊎-elim (λ z. let w : getD cs k 0 ≡ c = omega (arith, v .below k refl, f k, g k) in omega (arith, l .here k refl z)) (λ z. omega (arith, l .sooner k refl z)) (split (numberOf c e) (numberOf (getD cs k 0) (getD es k 0)));
+      }
+
+  module _ (c s e i j x y : ℕ) (a : s < 4294967296) (b : e < 4294967296) (h : s < e) (o : i ≤ j) (u : Parted (ends (idRow cs ss es)) n (numberOf c s) i i)
+      (w : Parted (starts (idRow cs ss es)) n (numberOf c (e + 1)) j j) (l : Leads cs ss n i c s x) (m : Trails cs es j c e y) where
+    abbrev one : inner.Row
+    one = piece (numberOf c x) (numberOf c y) 1
+
+    abbrev rows : inner.Rows
+    rows = span (idRow cs ss es) 0 i ++ (((one ∷ []) ++ []) ++ span (idRow cs ss es) j (n - j))
+
+    -- the row laid there makes the union
+    rows-right : rows ≡ combined inner.union (idRows cs ss es n) (idRows (c ∷ []) (s ∷ []) (e ∷ []) 1)
+    unfolding span
+    rows-right =
+        let v : Parted (starts (idRow cs ss es)) n (numberOf c e + 1) j j = subst (λ (z : ℕ). Parted (starts (idRow cs ss es)) n z j j) (let z : numberOf c (e + 1) ≡ numberOf c e + 1 = omega arith in z) w in
+        let p = first i c s x a u l in
+        let q = last j c e y b v m in
+        let k : min (p .place) (numberOf c s) < max (numberOf c e) (q .place) = omega arith in
+        ap (λ (t : inner.Rows). span (idRow cs ss es) 0 i ++ (t ++ span (idRow cs ss es) j (n - j)))
+        (ap₂ (λ (t z : ℕ). piece t z 1 ∷ []) (p .is) (q .is) ∙ sym (range-one _ _ k))
+        ∙ (inserted (idRow cs ss es) n plain (numberOf c s) (numberOf c e) i j (p .place) (q .place) (omega arith) o (p .starting) (q .ending) u v
+        ∙ ap (combined inner.union (idRows cs ss es n)) (range-one (numberOf c s) (numberOf c e) (omega arith)))
+
+    pub laid-full : (room k : ℕ) (row : ℕ → inner.Row) → k ≡ i + 1 + (n - j) → room < k → Holds room row k (combined inner.union (idRows cs ss es n) (idRows (c ∷ []) (s ∷ []) (e ∷ []) 1))
+    laid-full room k row z d = subst (λ (r : inner.Rows). Holds room row k r) rows-right (laid-over row (idRow cs ss es) i j n (one ∷ []) [] d (omega arith))
+
+    pub laid-done : (room k : ℕ) (oc os oe : List ℕ) → k ≡ i + 1 + (n - j) → k ≤ room → Spliced cs n i j c oc → Spliced ss n i j x os → Spliced es n i j y oe
+        → Holds room (idRow oc os oe) k (combined inner.union (idRows cs ss es n) (idRows (c ∷ []) (s ∷ []) (e ∷ []) 1))
+    unfolding span
+    laid-done room k oc os oe z t p q r =
+        subst (λ (d : inner.Rows). Holds room (idRow oc os oe) k d) rows-right
+        (laid-holds {row = idRow oc os oe} {row₁ = idRow oc os oe} {row₂ = idRow oc os oe} {row₃ = idRow oc os oe} {x = i + 1} {y = i + 1} {mid = one ∷ []} {more = []} k
+        (record { before2 = λ d z. refl; there = λ d z. subst (λ (w : ℕ). idRow oc os oe w ≡ idRow cs ss es w) (let w : d ≡ 0 + d = omega arith in w) (front d (omega arith)) })
+        (record { before2 = λ d z. refl; there = ap (λ (d : inner.Row). d ∷ []) (row-is (ap₂ numberOf (p .here) (q .here)) (ap₂ numberOf (p .here) (r .here)) refl); next = refl })
+        (record { before2 = λ d z. refl; there = refl; next = omega arith })
+        (record { before2 = λ d z. refl; there = λ d z. row-is (ap₂ numberOf (p .back d z) (q .back d z)) (ap₂ numberOf (p .back d z) (r .back d z)) refl })
+        (omega arith) t)
+      where
+        front : (d : ℕ) → d < i → idRow oc os oe d ≡ idRow cs ss es d
+        front d z = row-is (ap₂ numberOf (p .front d z) (q .front d z)) (ap₂ numberOf (p .front d z) (r .front d z)) refl
+
+-- the row before j ends past the id, or not
+pub trails-past : (cs ks : List ℕ) (j c e : ℕ) → (j ≡ 0 → ⊥) → numberOf c e < numberOf (getD cs (j - 1) 0) (getD ks (j - 1) 0) → Trails cs ks j c e (getD ks (j - 1) 0)
+trails-past cs ks j c e n h =
+    record {
+      here = λ k z _. ap (λ (y : ℕ). getD ks y 0) (let w : j - 1 ≡ k = omega arith in w);
+      sooner = λ k z l. absurd (omega (arith, subst (λ (y : ℕ). numberOf c e < numberOf (getD cs y 0) (getD ks y 0)) (let w : j - 1 ≡ k = omega arith in w) h));
+      none = λ z. absurd (n z);
+    }
+
+pub trails-not : (cs ks : List ℕ) (j c e : ℕ) → (j ≡ 0 → ⊥) → (numberOf c e < numberOf (getD cs (j - 1) 0) (getD ks (j - 1) 0) → ⊥) → Trails cs ks j c e e
+trails-not cs ks j c e n h =
+    record {
+      here = λ k z l. absurd (h (subst (λ (y : ℕ). numberOf c e < numberOf (getD cs y 0) (getD ks y 0)) (let w : k ≡ j - 1 = omega arith in w) l));
+      sooner = λ _ _ _. refl;
+      none = λ _. refl;
+    }
+
+-- ## The table of one row
+
+pub one-narrow : (s : ℕ) → s < 4294967296 → Narrow (s ∷ [])
+one-narrow s h zero = omega arith
+one-narrow s h (suc j) = omega arith
+
+pub both-one : (cs ss es : List ℕ) (n c s e : ℕ) → Narrow ss → Narrow es → IdTable cs ss es n → s < e → Both cs ss es n (c ∷ []) (s ∷ []) (e ∷ []) 1 true
+both-one cs ss es n c s e f g t h =
+    record {
+      says = says-yes (table-up cs ss es f g n t, (lit≤ tt, (h, tt, tt)));
+      one = λ _. t;
+      two = λ _. record { few = lit≤ tt; filled = λ j l. subst (λ (v : ℕ). getD (s ∷ []) v 0 < getD (e ∷ []) v 0) (let z : 0 ≡ j = omega arith in z) h; apart = λ j l. absurd (omega arith) };
+    }

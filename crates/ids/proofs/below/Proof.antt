@@ -1,0 +1,81 @@
+-- The invariant: the two ends of what is still possible. Assumes nothing.
+use native.Mathlib.Omega.{arith}
+use Prim.Native.Nat.{_+_, _-_, _/_, _≤_}
+use Rattle.tables.specs.Inner.Edit.{Parted}
+use Rattle.tables.proofs.Inserting.{parted-right, parted-left, parted-met}
+use Rattle.ids.specs.Inner.{numberOf, marks}
+use borrow.Author.Needs.{needs}
+use Rattle.ids.proofs.below.Statement.{statement}
+use Rattle.ids.proofs.below.Tie as tie
+use Rattle.ids.proofs.below.Reads as reads
+use Rattle.ids.proofs.below.Lts as lts
+use Rattle.ids.proofs.past.Reads as past-reads
+
+abbrev Inv-loop : tie.InvT-loop
+Inv-loop clients clocks n i c x lo₀ hi₀ lo hi = Parted (marks clients clocks) n (numberOf c x) lo hi × (i ≤ lo)
+
+abbrev μ-loop : tie.MeasureT-loop
+μ-loop clients clocks n i c x lo₀ hi₀ lo hi = hi - lo
+
+loop-holds : tie.Need-loop-holds Inv-loop μ-loop
+loop-holds c = (c .before .before .pre .1, omega arith)
+
+sub-mid : tie.Need-sub-mid Inv-loop μ-loop
+sub-mid c = search needs
+
+add-mid : tie.Need-add-mid Inv-loop μ-loop
+add-mid c = search needs
+
+mul-past : tie.Need-mul-past Inv-loop μ-loop
+mul-past c = search needs
+
+shared-slice-read-past : tie.Need-shared-slice-read-past Inv-loop μ-loop
+shared-slice-read-past c = search needs
+
+mul-past-2 : tie.Need-mul-past-2 Inv-loop μ-loop
+mul-past-2 c = search needs
+
+shared-slice-read-past-2 : tie.Need-shared-slice-read-past-2 Inv-loop μ-loop
+shared-slice-read-past-2 c = search needs
+
+past-requires : tie.Need-past-requires Inv-loop μ-loop
+past-requires c κs = search needs
+
+loop-less : tie.Need-loop-less Inv-loop μ-loop
+loop-less c = search needs
+
+loop-again : tie.Need-loop-again Inv-loop μ-loop
+loop-again c = (parted-left (c .before .before .before .before .before .loop .lo + (c .before .before .before .before .before .loop .hi - c .before .before .before .before .before .loop .lo) / 2) (c .before .before .before .before .before .loop .inv .0) (omega arith) (omega arith) (c .before .past .ensures .right (c .if1 .taken)), omega arith)
+
+add-lo : tie.Need-add-lo Inv-loop μ-loop
+add-lo c = search needs
+
+loop-less-2 : tie.Need-loop-less-2 Inv-loop μ-loop
+loop-less-2 c = search needs
+
+loop-again-2 : tie.Need-loop-again-2 Inv-loop μ-loop
+loop-again-2 c = let n = c .before .past .ensures .wrong (c .if1 .left) in (parted-right (c .before .before .before .before .before .loop .lo + (c .before .before .before .before .before .loop .hi - c .before .before .before .before .before .loop .lo) / 2) (c .before .before .before .before .before .loop .inv .0) (omega arith) (omega arith) (omega arith), omega arith)
+
+returns : tie.Need-returns Inv-loop μ-loop
+returns c = (parted-met (c .before .loop .inv .0) (omega arith), c .before .loop .inv .1)
+
+pub below-spec : {M : Type 1} → statement M
+below-spec =
+    tie.close
+    (tie.spec
+    Inv-loop
+    μ-loop
+    loop-holds
+    sub-mid
+    add-mid
+    mul-past
+    shared-slice-read-past
+    mul-past-2
+    shared-slice-read-past-2
+    past-requires
+    loop-less
+    loop-again
+    add-lo
+    loop-less-2
+    loop-again-2
+    returns)

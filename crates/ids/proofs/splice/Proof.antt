@@ -1,0 +1,44 @@
+-- A front, one element, and a back. Assumes nothing.
+use native.Mathlib.Omega.{arith}
+use mathlib.Core.Path.{_∙_}
+use lib.ListN.{length-set}
+use Rattle.ids.proofs.Splicing.{spliced}
+use borrow.Author.Needs.{needs}
+use Rattle.ids.proofs.splice.Statement.{statement}
+use Rattle.ids.proofs.splice.Tie as tie
+use Rattle.ids.proofs.splice.Reads as reads
+use Rattle.ids.proofs.splice.Lts as lts
+use Rattle.ids.proofs.shift.Reads as shift-reads
+
+shift-requires : tie.Need-shift-requires
+shift-requires c κs = search needs
+
+mul-out : tie.Need-mul-out
+mul-out c = search needs
+
+slice-write-out : tie.Need-slice-write-out
+slice-write-out c = search needs
+
+add-shift : tie.Need-add-shift
+add-shift c = search needs
+
+shift-requires-2 : tie.Need-shift-requires-2
+shift-requires-2 c κs = (omega arith, omega arith, simp length-set (omega (arith, c .before .before .before .shift .kept .1 .1 .1 .0)))
+
+same-length : tie.Need-same-length
+same-length c = c .before .before .shift2 .kept .1 .1 .1 .0 ∙ simp length-set (c .before .before .before .before .before .before .shift .kept .1 .1 .1 .0)
+
+returns : tie.Need-returns
+returns c = spliced (c .before .before .before .before .before .before .shift .ensures) (omega (arith, c .before .before .before .before .before .before .shift .kept .1 .1 .1 .0)) (c .before .before .shift2 .ensures)
+
+pub splice-spec : {M : Type 1} → statement M
+splice-spec =
+    tie.close
+    (tie.spec
+    shift-requires
+    mul-out
+    slice-write-out
+    add-shift
+    shift-requires-2
+    same-length
+    returns)

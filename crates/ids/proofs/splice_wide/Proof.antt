@@ -1,0 +1,44 @@
+-- A front, one element, and a back. Assumes nothing.
+use native.Mathlib.Omega.{arith}
+use mathlib.Core.Path.{_∙_}
+use lib.ListN.{length-set}
+use Rattle.ids.proofs.Splicing.{spliced}
+use borrow.Author.Needs.{needs}
+use Rattle.ids.proofs.splice_wide.Statement.{statement}
+use Rattle.ids.proofs.splice_wide.Tie as tie
+use Rattle.ids.proofs.splice_wide.Reads as reads
+use Rattle.ids.proofs.splice_wide.Lts as lts
+use Rattle.ids.proofs.shift_wide.Reads as shift-wide-reads
+
+shift-wide-requires : tie.Need-shift-wide-requires
+shift-wide-requires c κs = search needs
+
+mul-out : tie.Need-mul-out
+mul-out c = search needs
+
+slice-write-out : tie.Need-slice-write-out
+slice-write-out c = search needs
+
+add-shift-wide : tie.Need-add-shift-wide
+add-shift-wide c = search needs
+
+shift-wide-requires-2 : tie.Need-shift-wide-requires-2
+shift-wide-requires-2 c κs = (omega arith, omega arith, simp length-set (omega (arith, c .before .before .before .shift-wide .kept .1 .1 .1 .0)))
+
+same-length : tie.Need-same-length
+same-length c = c .before .before .shift-wide2 .kept .1 .1 .1 .0 ∙ simp length-set (c .before .before .before .before .before .before .shift-wide .kept .1 .1 .1 .0)
+
+returns : tie.Need-returns
+returns c = spliced (c .before .before .before .before .before .before .shift-wide .ensures) (omega (arith, c .before .before .before .before .before .before .shift-wide .kept .1 .1 .1 .0)) (c .before .before .shift-wide2 .ensures)
+
+pub splice-wide-spec : {M : Type 1} → statement M
+splice-wide-spec =
+    tie.close
+    (tie.spec
+    shift-wide-requires
+    mul-out
+    slice-write-out
+    add-shift-wide
+    shift-wide-requires-2
+    same-length
+    returns)

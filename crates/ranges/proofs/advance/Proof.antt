@@ -1,0 +1,22 @@
+use native.Mathlib.Omega.{arith}
+use Rattle.tables.proofs.Inserting.{advanced, advanced-most}
+use borrow.Author.Needs.{needs}
+use Rattle.ranges.proofs.advance.Statement.{statement}
+use Rattle.ranges.proofs.advance.Tie as tie
+use Rattle.ranges.proofs.advance.Reads as reads
+use Rattle.ranges.proofs.advance.Lts as lts
+
+add-below : tie.Need-add-below
+add-below c = search needs
+
+sub-below : tie.Need-sub-below
+sub-below c = search needs
+
+mul-result : tie.Need-mul-result
+mul-result c = omega (arith, advanced-most (advanced (c .args .m) (c .args .x) (c .args .half) (omega arith) (omega arith)))
+
+returns : tie.Need-returns
+returns c = advanced (c .args .m) (c .args .x) (c .args .half) (omega arith) (omega arith)
+
+pub advance-spec : {M : Type 1} → statement M
+advance-spec = tie.close (tie.spec add-below sub-below mul-result returns)

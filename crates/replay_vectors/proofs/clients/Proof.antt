@@ -1,0 +1,33 @@
+-- `replay_vectors::clients` meets its contract. Assumes nothing.
+use mathlib.Core.Path.{_≡_}
+use Prim.Native.Nat.{_≤_, _-_}
+use lib.ListN.{length}
+use borrow.Author.Needs.{needs}
+use Rattle.replay_vectors.proofs.clients.Statement.{statement}
+use Rattle.replay_vectors.proofs.clients.Tie as tie
+
+abbrev Inv-loop : tie.InvT-loop
+Inv-loop args n from out₀ i₀ out i = length out ≡ length out₀
+
+abbrev μ-loop : tie.MeasureT-loop
+μ-loop args n from out₀ i₀ out i = length out₀ - i
+
+pub clients-spec : {M : Type 1} → statement M
+clients-spec =
+    tie.close
+    (tie.spec
+    Inv-loop
+    μ-loop
+    (λ c. search needs)
+    (λ c. search needs)
+    (λ c. search needs)
+    (λ c. search needs)
+    (λ c. search needs)
+    (λ c κs. search needs)
+    (λ c. search needs)
+    (λ c. search needs)
+    (λ c. search needs)
+    (λ c. search needs)
+    (λ c. search needs)
+    (λ c. search needs)
+    (λ c. search needs))
