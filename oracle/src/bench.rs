@@ -15,8 +15,10 @@ use crate::updates::{decoder::Decode, encoder::Encode};
 use std::hint::black_box as bb;
 use std::time::{Duration, Instant};
 
-/// How many different inputs a row has, but for short ones, which have more.
+/// The least number of different inputs of a row.
 const INPUTS: usize = 64;
+/// How many inputs of n rows: short ones are so many that no branch predictor can learn them all.
+fn inputs(n: usize) -> usize { (32768 / n).max(INPUTS) }
 /// Room for the most rows of a table.
 const ROOM: usize = 1024;
 
@@ -74,6 +76,11 @@ type Put = extern "C" fn(u64, *mut u8, usize, usize) -> Place;
 #[inline(never)]
 extern "C" fn one_byte(b: *const u8, _: usize, at: usize) -> Number { Number { no: 0, value: unsafe { *b.add(at) } as u64, next: at + 1 } }
 #[inline(never)]
+extern "C" fn short_first(b: *const u8, len: usize, at: usize) -> Number {
+    let s = unsafe { std::slice::from_raw_parts(b, len) };
+    match s.get(at) { Some(&x) if x < 128 => Number { no: 0, value: x as u64, next: at + 1 }, _ => iz_read_u64(s, at) }
+}
+#[inline(never)]
 extern "C" fn put_byte(v: u64, b: *mut u8, _: usize, at: usize) -> Place { unsafe { *b.add(at) = v as u8 } Place { no: 0, next: at + 1 } }
 
 impl Bench {
@@ -125,6 +132,9 @@ impl Bench {
                 self.parts.push(("read of one byte: a call that only loads it and answers".into(), p[0]));
                 self.parts.push(("write of one byte: a call that only stores it and answers".into(), p[1]));
             }
+            let f: Bare = bb(short_first);
+            let p = self.race(per, &mut [Box::new(|| timed(|| for b in &bs { let b = bb(&b[..]); let (mut at, mut s) = (0, 0); for _ in 0..N { let r = f(b.as_ptr(), b.len(), at); s ^= r.value; at = r.next } bb(s); }))]);
+            self.parts.push((format!("read u64, {what}: a trial with a number of one byte answered before the loop"), p[0]));
             let peers = crate::bench::peers::numbers(self, &bs, &vs, N);
             for (i, t) in [(0, "u64"), (1, "u32")] {
                 self.line(Line { group: "Numbers", name: format!("read {t}, {what}"), goal: Some([0.65, 0.80, 0.50][m]), limit: None, yrs: read[2 * i], alone: None, ours: read[2 * i + 1], copy: read[4], peers: peers.0[i].clone() });
@@ -147,7 +157,7 @@ impl Bench {
         })).collect()
     }
     fn set_op(&mut self, op: usize, n: usize, shape: (&str, u64, u64), goal: Option<f64>, show: bool) -> (f64, f64) {
-        let inputs = if n < 64 { 1024 } else { INPUTS };
+        let inputs = inputs(n);
         let Some(ps) = self.pairs(op, n, shape.1, shape.2, inputs) else {
             println!("{}, {n} + {n} rows, {}: the right result has more than 1,024 rows", OPS[op], shape.0);
             self.skipped.push(format!("{} of {n} + {n} rows, {}", OPS[op], shape.0));
@@ -201,7 +211,7 @@ impl Bench {
     // ---- one range in, one out; a list of ranges; questions
     fn edit(&mut self, put: bool, n: usize, show: bool) -> (f64, f64) {
         let r = &mut self.rng;
-        let ps: Vec<(Table, u32, u32)> = (0..INPUTS * if n < 64 { 16 } else { 1 }).map(|_| { let t = gen(r, n, 16, 16, 0); let s = r.below(t[n - 1].2 as u64) as u32; (t, s, s + 1 + r.below(8) as u32) }).collect();
+        let ps: Vec<(Table, u32, u32)> = (0..inputs(n)).map(|_| { let t = gen(r, n, 16, 16, 0); let s = r.below(t[n - 1].2 as u64) as u32; (t, s, s + 1 + r.below(8) as u32) }).collect();
         let fs: Vec<(Vec<u32>, u32, u32)> = ps.iter().map(|p| (flat(&p.0), p.1, p.2)).collect();
         let ts: Vec<IdRange> = ps.iter().map(|p| table(&p.0)).collect();
         let (mut out, mut to) = (vec![7u32; 2 * (n + 1)], vec![0u32; 2 * n]);
@@ -229,7 +239,8 @@ impl Bench {
     }
     fn list(&mut self, sorted: bool, n: usize, show: bool) -> (f64, f64) {
         let r = &mut self.rng;
-        let ps: Vec<Table> = (0..INPUTS).map(|_| { let mut t = gen(r, n, 16, 16, 0); if !sorted { for i in (1..n).rev() { t.swap(i, r.below(i as u64 + 1) as usize) } } t }).collect();
+        let inputs = inputs(n);
+        let ps: Vec<Table> = (0..inputs).map(|_| { let mut t = gen(r, n, 16, 16, 0); if !sorted { for i in (1..n).rev() { t.swap(i, r.below(i as u64 + 1) as usize) } } t }).collect();
         let fs: Vec<Vec<u32>> = ps.iter().map(flat).collect();
         let (mut out, mut to) = (vec![7u32; 2 * n], vec![0u32; 2 * n]);
         let yrs = |f: &[u32]| IdRanges::from_ranges(f.chunks_exact(2).map(|p| p[0]..p[1]));
@@ -237,7 +248,7 @@ impl Bench {
             let k = iz_ranges_from_ranges(f, n, &mut out);
             assert_eq!((k.no, &out[..2 * k.count]), (0, &flat(&rows(&yrs(f)))[..]));
         }
-        let t = self.race(INPUTS, &mut [
+        let t = self.race(inputs, &mut [
             Box::new(|| timed(|| for f in &fs { bb(yrs(bb(f))); })),
             Box::new(|| timed(|| for f in &fs { assert!(iz_ranges_from_ranges(bb(f), n, &mut out).no == 0); })),
             Box::new(|| timed(|| for f in &fs { copy(&mut to, f); bb(&mut to); })),
@@ -248,7 +259,7 @@ impl Bench {
     /// The original's, ours, the check alone.
     fn ask(&mut self, start: bool, n: usize, show: bool) -> (f64, f64, f64) {
         let r = &mut self.rng;
-        let ps: Vec<(Table, Vec<u32>)> = (0..INPUTS).map(|_| { let t = gen(r, n, 16, 16, 0); let top = t[n - 1].2 as u64; (t, (0..16).map(|_| r.below(top) as u32).collect()) }).collect();
+        let ps: Vec<(Table, Vec<u32>)> = (0..INPUTS).map(|_| { let t = gen(r, n, 16, 16, 0); let top = t[n - 1].2 as u64; (t, (0..64).map(|_| r.below(top) as u32).collect()) }).collect();
         let fs: Vec<(Vec<u32>, Vec<u32>)> = ps.iter().map(|p| (flat(&p.0), p.1.clone())).collect();
         let ts: Vec<IdRange> = ps.iter().map(|p| table(&p.0)).collect();
         for (f, t) in fs.iter().zip(&ts) { for &k in &f.1 {
@@ -257,7 +268,7 @@ impl Bench {
             assert_eq!(i.some.then_some(i.value), t.find_start(k));
         } }
         let mut to = vec![0u32; 2 * n];
-        let t = self.race(INPUTS * 16, &mut [
+        let t = self.race(INPUTS * 64, &mut [
             Box::new(|| timed(|| for (f, t) in fs.iter().zip(&ts) { for &k in &f.1 { if start { bb(bb(t).find_start(k)); } else { bb(bb(t).contains_clock(k)); } } })),
             Box::new(|| timed(|| for f in &fs { for &k in &f.1 { if start { bb(iz_ranges_find_start(bb(&f.0), n, k)); } else { bb(iz_ranges_contains_clock(bb(&f.0), n, k)); } } })),
             Box::new(|| timed(|| for f in &fs { for _ in &f.1 { bb(iz_ranges_is_empty(bb(&f.0), n)); } })),
@@ -283,7 +294,8 @@ impl Bench {
     fn id_op(&mut self, op: usize, clients: usize, each: usize, goal: Option<f64>, show: bool) -> (f64, f64) {
         let yrs = |op: usize, a: &IdMapInner<()>, b: &IdMapInner<()>| match op { 0 => a.merge(b), 1 => a.diff(b), _ => a.intersect(b) };
         let r = &mut self.rng;
-        let ps: Vec<(Table, Table)> = (0..INPUTS).map(|_| loop {
+        let inputs = inputs(clients * each);
+        let ps: Vec<(Table, Table)> = (0..inputs).map(|_| loop {
             let mut cs: Vec<u64> = (0..clients).map(|_| r.below(1 << 32)).collect();
             cs.sort();
             let mut make = || -> Table { cs.iter().flat_map(|&c| gen(r, each, 16, 16, c)).collect() };
@@ -313,7 +325,7 @@ impl Bench {
             let k = ours(f, &mut out);
             assert_eq!((0..k).map(|i| (out.c[i], out.s[i], out.e[i])).collect::<Table>(), want);
         }
-        let t = self.race(INPUTS, &mut [
+        let t = self.race(inputs, &mut [
             Box::new(|| timed(|| for t in &ts { bb(yrs(op, bb(&t.0), bb(&t.1))); })),
             Box::new(|| { let mut cs: Vec<IdMapInner<()>> = ts.iter().map(|t| t.0.clone()).collect(); let d = timed(|| for (c, t) in cs.iter_mut().zip(&ts) { match op { 0 => c.merge_with(bb(&t.1)), 1 => c.diff_with(bb(&t.1)), _ => c.intersect_with(bb(&t.1)) } }); bb(cs); d }),
             Box::new(|| timed(|| for f in &fs { bb(ours(bb(f), &mut out)); })),
@@ -333,7 +345,7 @@ impl Bench {
     /// Two vectors of `n` clients of which `shared` are in both: merge, decode, encode, compare.
     fn vector(&mut self, n: usize, shared: usize, show: bool) -> [(f64, f64); 4] {
         let r = &mut self.rng;
-        let inputs = if n < 64 { 256 } else { INPUTS };
+        let inputs = inputs(n);
         type V = Vec<(u64, u32)>;
         let ps: Vec<(V, V)> = (0..inputs).map(|_| {
             let mut seen = std::collections::BTreeSet::new();
@@ -348,7 +360,7 @@ impl Bench {
         let fs: Vec<_> = ps.iter().map(|p| (cols(&p.0), cols(&p.1))).collect();
         let ts: Vec<(StateVector, StateVector)> = ps.iter().map(|p| (vector(&p.0), vector(&p.1))).collect();
         let bs: Vec<Vec<u8>> = ts.iter().map(|t| crate::original::sorted(&t.0.encode_v1())).collect();
-        if let (Ok(d), 256) = (std::env::var("BENCH_INPUTS"), n) { for (i, b) in bs.iter().enumerate() { std::fs::write(format!("{d}/vector-{i}.bin"), b).unwrap() } }
+        if let (Ok(d), 256) = (std::env::var("BENCH_INPUTS"), n) { for (i, b) in bs.iter().take(INPUTS).enumerate() { std::fs::write(format!("{d}/vector-{i}.bin"), b).unwrap() } }
         let room = (2 * n).min(256);
         let (mut oc, mut ok, mut o2c, mut o2k, mut buf) = (vec![7u64; room], vec![7u32; room], vec![7u64; 256], vec![7u32; 256], vec![9u8; 3842]);
         let (mut tc, mut tk, mut tb) = (vec![0u64; 2 * n], vec![0u32; 2 * n], vec![0u8; 4000]);
