@@ -1,7 +1,8 @@
 /* Izgarmulf: clock tables, state vectors and their numbers. Made from crates/ffi/src/lib.rt by bindings/c/header.
  *
  * A slice crosses as a pointer and how many elements may be read or written there; with 0 elements the pointer is not followed.
- * An output may not overlap an input. Every other argument may be anything: nothing is assumed, and no call fails to return.
+ * The caller sees to this: each pointer has as many elements as its length says; an output overlaps neither an input nor another output;
+ * a `bool` is 0 or 1. Nothing else is assumed: counts, places and elements may be anything, and every call returns.
  * Each answer has `no`: 0 done, 1 END, 2 LONG, 3 RANGE, 4 FULL, 5 MALFORMED, 6 SIGN.
  */
 #ifndef IZGARMULF_H

@@ -1,6 +1,6 @@
 //! lists ROOT: the stored lists of the programs crates/replay_..: `stdin` and `stdout` of each, made again byte for byte. What is expected
 //! comes from the original; from the model where the original has no such answer (LONG and RANGE apart, FULL, MALFORMED, SIGN, the listed
-//! differences); never from our library, which isn't called here. Each program's main.rt says its line format.
+//! differences); never from our library, which isn't called here. The cases of oracle/lists come first: their answers were written by hand. Each program's main.rt says its line format.
 use oracle::case::{Op::*, *};
 use oracle::rng::Rng;
 use oracle::{gen, model, original};
@@ -18,6 +18,13 @@ fn right(c: &Case) -> Answer {
 #[derive(Default)]
 struct List { stdin: String, stdout: String, cases: usize }
 impl List {
+    /// The cases of oracle/lists, whose answers were written by hand from document 01, open a list.
+    fn by_hand(root: &str, name: &str) -> List {
+        let text = |kind: &str| std::fs::read_to_string(format!("{root}/oracle/lists/{name}.{kind}")).unwrap();
+        let mut l = List::default();
+        for (line, answer) in text("stdin").lines().zip(text("stdout").lines()) { l.add_in_block(line.into(), answer.into()) }
+        l
+    }
     fn add(&mut self, line: String, answer: String) { self.stdin += &line; self.stdin.push('\n'); self.stdout += &answer; self.stdout.push('\n'); self.cases += 1 }
     /// No line goes over the end of a block: spaces fill what is left of it.
     fn add_in_block(&mut self, line: String, answer: String) {
@@ -59,8 +66,7 @@ fn number(l: &mut List, c: &Case) {
         _ => unreachable!(),
     }
 }
-fn numbers() -> List {
-    let mut l = List::default();
+fn numbers(mut l: List) -> List {
     let readers: Vec<Op> = ops().into_iter().filter(|o| o.reads()).collect();
     let writers: Vec<Op> = ops().into_iter().filter(|o| matches!(o, Write(_) | WriteSigned(_))).collect();
     // document 01's bytes to try
@@ -203,8 +209,7 @@ fn vector_line(l: &mut List, c: &Case) {
     };
     l.add(line, answer)
 }
-fn vectors() -> List {
-    let mut l = List::default();
+fn vectors(mut l: List) -> List {
     // document 01's bytes and rows to try
     let v = |rows: &[(u64, u32)]| gen::vec_table(rows);
     let with = |op: Op, f: &dyn Fn(&mut Case)| { let mut c = Case::of(op); c.out = gen::room(Kind::Vector, 3, 0); f(&mut c); c };
@@ -246,8 +251,7 @@ fn examples(l: &mut List, line: fn(&mut List, &Case), kind: Kind) {
     for op in [Exclude, IdDiff] { see(op, &[(0, 10)], &[(2, 4), (6, 12)], 0, 0) }
     for op in [Intersect, IdIntersect] { see(op, &[(0, 5), (7, 12)], &[(3, 8)], 0, 0) }
 }
-fn tables(seed: u64, kind: Kind, random: fn(&mut Rng, usize, &mut dyn FnMut(&Case)), line: fn(&mut List, &Case), small: usize, long: &[usize]) -> List {
-    let mut l = List::default();
+fn tables(mut l: List, seed: u64, kind: Kind, random: fn(&mut Rng, usize, &mut dyn FnMut(&Case)), line: fn(&mut List, &Case), small: usize, long: &[usize]) -> List {
     let mut r = Rng(seed);
     examples(&mut l, line, kind);
     for i in 0..small { random(&mut r, 1 + i % 6, &mut |c| line(&mut l, c)) }
@@ -258,8 +262,8 @@ fn tables(seed: u64, kind: Kind, random: fn(&mut Rng, usize, &mut dyn FnMut(&Cas
 fn main() {
     let root = std::env::args().nth(1).expect("ROOT");
     let has = |name: &str| std::path::Path::new(&format!("{root}/crates/{name}")).exists();
-    if has("replay_numbers") { numbers().write(&root, "replay_numbers") }
-    if has("replay_ranges") { tables(2, Kind::Range, gen::random_range, range_line, 150, &[12, 25, 40, 64]).write(&root, "replay_ranges") }
-    if has("replay_vectors") { vectors().write(&root, "replay_vectors") }
-    if has("replay_ids") { tables(3, Kind::Id, gen::random_id, id_line, 220, &[12, 25, 40, 64]).write(&root, "replay_ids") }
+    if has("replay_numbers") { numbers(List::by_hand(&root, "numbers")).write(&root, "replay_numbers") }
+    if has("replay_ranges") { tables(List::by_hand(&root, "ranges"), 2, Kind::Range, gen::random_range, range_line, 150, &[12, 25, 40, 64]).write(&root, "replay_ranges") }
+    if has("replay_vectors") { vectors(List::by_hand(&root, "vectors")).write(&root, "replay_vectors") }
+    if has("replay_ids") { tables(List::default(), 3, Kind::Id, gen::random_id, id_line, 220, &[12, 25, 40, 64]).write(&root, "replay_ids") }
 }
