@@ -4,6 +4,7 @@ pub mod Saying
 pub mod Running
 pub mod Reaching
 pub mod Ordering
+pub mod Going
 pub mod Own
 pub mod Example
 pub mod Wrong

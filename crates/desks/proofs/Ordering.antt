@@ -252,6 +252,10 @@ way-of : (rs : List Row) → Sorted rs → Way rs
 way-of [] s = record { list = []; holds = (tt, λ c k. (λ x. x, λ x. x)); below = λ q z. tt; none = λ n l. tt; alone = λ n l m. refl }
 way-of (r ∷ rs) s = way-more r rs (s .0) (way-of rs (s .1))
 
+-- there is a table of any ranges
+pub table-of : (l : List Row) → (t : List Row) × TableOf (Holds l) t
+table-of l = let o = order l in let t = way-of (o .list) (o .sorted) in (t .list, same-table (o .list) l (t .list) (o .members) (t .holds))
+
 -- of a desk after a run
 module _ (log : List Event) (w : Place → Held) (run : Run stated log w) (d : ℕ) where
   ranges : Order (reached log (desk d))

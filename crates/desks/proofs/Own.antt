@@ -9,12 +9,13 @@ use Rattle.tables.specs.declared.Made.{Made}
 use Rattle.tables.specs.declared.Made.the-variants.{Rows}
 use Rattle.ids.specs.Rows.{Row}
 use Rattle.ids.specs.Tables.{Slices, Held, most, Inserted, Captured, Merged}
-use Rattle.desks.specs.Runs.{Place, desk, Event, insert, capture, merge, Calls, Run}
-use Rattle.desks.specs.Demand.{Alone, Right, Demand, HandedOn, Answers, NeverMalformed, NoneRefused, SomeOrder}
+use Rattle.desks.specs.Runs.{Place, desk, Event, insert, capture, merge, answering, Calls, Run}
+use Rattle.desks.specs.Demand.{Alone, Right, Demand, HandedOn, Answers, NeverMalformed, Next, GoesOn, NoneRefused, SomeOrder}
 use Rattle.desks.specs.Own.{Lent, Insert, Capture, Merge, own, stated}
 use Rattle.desks.proofs.Saying.{no-malformed}
 use Rattle.desks.proofs.Running as stated′
 use Rattle.desks.proofs.Ordering as stated″
+use Rattle.desks.proofs.Going as stated‴
 
 -- what a caller learns is the statement
 insert-says : (h : Held) (q : Row) (o out : Slices) (r : Made) → Insert h q o out r → Inserted h q o out r
@@ -108,3 +109,15 @@ pub some-order : SomeOrder own
 some-order log w r d =
     let s = stated″.some-order log w (run log w r) d in
     (s .0, s .1, none-refused (w (desk d) .count) (s .0) (s .2), s .3, alone-own (s .0) (s .3) (s .4))
+
+pub goes-on : GoesOn own
+goes-on log w r e o =
+    let n : Next stated log w e o = stated‴.goes-on log w (run log w r) e o in
+    let c = call-own w (answering e (n .answer)) o (n .out) (n .call) in
+    record {
+      answer = n .answer;
+      out = n .out;
+      call = c;
+      run = (w, r, (o, n .out, c, refl));
+      only = λ a out q. n .only a out (call w (answering e a) o out q);
+    }

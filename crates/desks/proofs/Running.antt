@@ -43,7 +43,7 @@ accepted : (l : List Row) (o out : Slices) (n : ℕ) → Brings (TableOf (Holds 
 accepted l o out n g = left-good l o out n (brings-left o out n g)
 
 -- the ids of ranges, in a step
-in-append : (xs ys : List Row) (c k : ℕ) → Holds (xs ++ ys) c k ↔ (Holds xs c k ⊎ Holds ys c k)
+pub in-append : (xs ys : List Row) (c k : ℕ) → Holds (xs ++ ys) c k ↔ (Holds xs c k ⊎ Holds ys c k)
 in-append [] ys c k = (λ x. inr x, ⊎-elim (λ x. absurd x) (λ y. y))
 in-append (x ∷ xs) ys c k = (
   ⊎-elim (λ a. inl (inl a)) (λ b. ⊎-elim (λ p. inl (inr p)) (λ q. inr q) (in-append xs ys c k .0 b)),

@@ -1,4 +1,4 @@
--- Each of the wrong desks of specs/Wrong.antt is excluded: by a run in which a desk lacks an id that reached it, or refuses what it has room for.
+-- Each of the wrong desks of specs/Wrong.antt is excluded: by a run in which a desk lacks an id that reached it, refuses what it has room for, or has no answer.
 use mathlib.Core.Path.{_≡_, refl, _∙_, ap}
 use mathlib.Core.Logic.{inl, inr}
 use mathlib.Core.List.{List, [], _∷_}
@@ -11,8 +11,8 @@ use Rattle.tables.specs.declared.Made.the-variants.{Rows, Refused}
 use Rattle.ids.specs.Rows.{Row, row, Holds}
 use Rattle.ids.specs.Tables.{Held, rows}
 use Rattle.desks.specs.Runs.{Place, desk, message, put, Event, insert, capture, merge, Run}
-use Rattle.desks.specs.Demand.{Demand, Answers, fitting}
-use Rattle.desks.specs.Wrong.{left-back, acknowledging, refusing}
+use Rattle.desks.specs.Demand.{Demand, Answers, GoesOn, fitting}
+use Rattle.desks.specs.Wrong.{left-back, acknowledging, refusing, silent}
 use Rattle.ids.proofs.Unique.{table-one}
 use Rattle.desks.proofs.Example.{lent, empty, one, one-of, second-insert, copied, copied-none, first-merge, w2, sending, sent}
 
@@ -60,3 +60,7 @@ refusing-excluded a =
     let b = a sending w2 (sent (refusing .merged)) (merge 1 0 (Refused Full)) (lent 0 0) (lent 0 0) (refl, refl) in
     let e : b .0 ≡ row 7 0 1 ∷ [] = table-one (b .0) (row 7 0 1 ∷ []) (b .1) (one-of 1 (lit< tt)) in
     not-full 1 (b .2 ∙ ap (λ (t : List Row). fitting (length t) 1) e)
+
+-- No merge is answered, so the empty run can't go on with one.
+pub silent-excluded : GoesOn silent → ⊥
+silent-excluded g = g [] (λ p. empty) (λ p. refl) (merge 0 0 (Rows 0)) (lent 0 0) .call

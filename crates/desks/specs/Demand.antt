@@ -12,7 +12,7 @@ use Rattle.tables.specs.declared.Made.{Made}
 use Rattle.tables.specs.declared.Made.the-variants.{Rows, Refused}
 use Rattle.ids.specs.Rows.{Row, Holds, TableOf}
 use Rattle.ids.specs.Tables.{Slices, Held, Table, rows, most}
-use Rattle.desks.specs.Runs.{Place, desk, choose, Event, answered, brings, reached, Routines, Calls, Run}
+use Rattle.desks.specs.Runs.{Place, desk, choose, Event, answered, answering, brings, reached, Routines, Calls, leaves, Run}
 
 -- the same ranges, in any order, repeats allowed
 abbrev pub Same : List Row → List Row → Type 0
@@ -56,6 +56,19 @@ Answers R =
 abbrev pub NeverMalformed : Routines → Type 0
 NeverMalformed R =
     (log : List Event) (w : Place → Held) → Run R log w → (e : Event) (o out : Slices) → Calls R w e o out → answered e ≡ Refused Malformed → ⊥
+
+-- The next step of a run, whatever it would be and whatever slices are lent for it: the answer, what it leaves, and that no other answer is allowed and
+-- nothing else is left. The answer that e has is not looked at.
+pub record Next (R : Routines) (log : List Event) (w : Place → Held) (e : Event) (o : Slices) : Type 0 where
+  pub answer : Made
+  pub out : Slices
+  pub call : Calls R w (answering e answer) o out
+  pub run : Run R (answering e answer ∷ log) (leaves w (answering e answer) out)
+  pub only : (a : Made) (out′ : Slices) → Calls R w (answering e a) o out′ → (a ≡ answer) × (out′ ≡ out)
+
+-- Any run can go on with any insert, capture or merge, and in one way: so there are runs of every sequence of steps for `Demand` to speak of.
+abbrev pub GoesOn : Routines → Type 0
+GoesOn R = (log : List Event) (w : Place → Held) → Run R log w → (e : Event) (o : Slices) → Next R log w e o
 
 -- A single desk that inserts the ranges, the last one first, and has room for n rows in each spare that it lends is never refused.
 abbrev pub NoneRefused : Routines → ℕ → List Row → Type 0

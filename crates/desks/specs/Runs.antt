@@ -40,6 +40,12 @@ answered (insert d r a) = a
 answered (capture d m a) = a
 answered (merge d m a) = a
 
+-- the same step with another answer
+abbrev pub answering : Event → Made → Event
+answering (insert d r x) a = insert d r a
+answering (capture d m x) a = capture d m a
+answering (merge d m x) a = merge d m a
+
 -- the ranges that a step brings, if it is accepted, where these had reached each place
 abbrev pub brings : (Place → List Row) → Event → List Row
 brings l (insert d r a) = r ∷ l (desk d)
