@@ -1,9 +1,9 @@
 // Replays cases of id tables. Each line of the standard input is a letter and decimal numbers, and each line of the output is the
 // library's answer. `stdin` and `stdout` stand beside src/.
 //
-// A table is COUNT LEN, and then LEN clients, LEN starts and LEN ends: three lent slices of LEN elements with that count. OUT is three
-// numbers, the lengths of the three output slices; each of their elements is the largest of its kind before the call. LEN and the lengths of
-// OUT are at most 1,100, and a missing number is 0.
+// A table is COUNT and three lengths, and then the clients, the starts and the ends: three lent slices of these lengths with that count.
+// OUT is three numbers, the lengths of the three output slices; each of their elements is the largest of its kind before the call. A length
+// is at most 1,100, and a missing number is 0. FROM+STEP*N stands for N numbers: FROM and then each STEP above the one before it.
 //
 //     m OUT TABLE TABLE             merge          NO COUNT LEFT and the rows, CLIENT START END each
 //     x OUT TABLE TABLE             diff           the same
@@ -45,12 +45,36 @@ fn digit(x: u64, c: u8) -> u64 {
     y + d
 }
 
-// x as the next number where it is wanted and there is room, and how many there are then.
-fn put(args: &mut [u64], k: usize, x: u64, wanted: bool) -> usize
+// The rest of n numbers, each `step` above the one before it, from place k on, and how many numbers there are then.
+fn rest(args: &mut [u64], k: usize, step: u64, n: u64) -> usize
     ensures { λ _. ⌜ length (now (args .exit)) ≡ length (now (args .entry)) ⌝ }
 {
-    if !wanted {
+    let mut k = k;
+    let mut i: u64 = 1;
+    while i < n {
+        if args.len() <= k {
+            return k;
+        }
+        if k == 0 {
+            return k;
+        }
+        let x = std::num::wrapping_add_u64(args[k - 1], step);
+        args[k] = x;
+        k += 1;
+        i += 1;
+    }
+    k
+}
+
+// A number x that ended, with the byte before it: the next number, or how many follow by the step. How many numbers there are then.
+fn put(args: &mut [u64], k: usize, x: u64, step: u64, lead: u8) -> usize
+    ensures { λ _. ⌜ length (now (args .exit)) ≡ length (now (args .entry)) ⌝ }
+{
+    if lead == b'+' {
         return k;
+    }
+    if lead == b'*' {
+        return rest(args, k, step, x);
     }
     if args.len() <= k {
         return k;
@@ -60,17 +84,41 @@ fn put(args: &mut [u64], k: usize, x: u64, wanted: bool) -> usize
     next
 }
 
+// The same where a number ended; otherwise nothing.
+fn put_if(args: &mut [u64], k: usize, x: u64, step: u64, lead: u8, ended: bool) -> usize
+    ensures { λ _. ⌜ length (now (args .exit)) ≡ length (now (args .entry)) ⌝ }
+{
+    if ended {
+        put(args, k, x, step, lead)
+    } else {
+        k
+    }
+}
+
+// The step after a number x.
+fn stepped(step: u64, x: u64, lead: u8, ended: bool) -> u64 {
+    if !ended {
+        return step;
+    }
+    if lead == b'+' { x } else { 0 }
+}
+
 // The numbers of the line that starts at `from`.
 fn line(b: &[u8], from: usize, args: &mut [u64]) -> Read {
     let mut i = from;
     let mut k: usize = 0;
     let mut x: u64 = 0;
+    let mut step: u64 = 0;
+    let mut lead: u8 = 32;
     let mut within = false;
     while i < b.len() {
         let c = b[i];
         i += 1;
         let is_digit = (48 <= c) & (c < 58);
-        k = put(args, k, x, within & !is_digit);
+        let ended = within & !is_digit;
+        k = put_if(args, k, x, step, lead, ended);
+        step = stepped(step, x, lead, ended);
+        lead = if is_digit { lead } else { c };
         x = digit(x, c);
         within = is_digit;
         if c == 10 {
@@ -96,10 +144,12 @@ fn within(x: u64, most: usize) -> usize
     if x < most as u64 { x as usize } else { most }
 }
 
-// A table of the line: its count, how many elements each slice has, and the place behind it.
+// A table of the line: its count, how many clients, starts and ends it has, and the place behind it.
 struct Given {
     count: usize,
-    len: usize,
+    x: usize,
+    y: usize,
+    z: usize,
     next: usize,
 }
 
@@ -128,20 +178,22 @@ fn clients(args: &[u64], from: usize, n: usize, out: &mut [u64]) {
 }
 
 // The table that starts at `at`, in slices of 1,100 elements.
-fn table(args: &[u64], at: usize, c: &mut [u64], s: &mut [u32], e: &mut [u32]) -> Given
-    ensures { λ r. ⌜ r .len ≤ 1100 ⌝ }
-{
-    let len = within(number(args, std::num::wrapping_add_usize(at, 1)), 1100);
-    let first = std::num::wrapping_add_usize(at, 2);
-    let second = std::num::wrapping_add_usize(first, len);
-    let third = std::num::wrapping_add_usize(second, len);
-    clients(args, first, len, c);
-    clocks(args, second, len, s);
-    clocks(args, third, len, e);
+fn table(args: &[u64], at: usize, c: &mut [u64], s: &mut [u32], e: &mut [u32]) -> Given {
+    let x = within(number(args, std::num::wrapping_add_usize(at, 1)), 1100);
+    let y = within(number(args, std::num::wrapping_add_usize(at, 2)), 1100);
+    let z = within(number(args, std::num::wrapping_add_usize(at, 3)), 1100);
+    let first = std::num::wrapping_add_usize(at, 4);
+    let second = std::num::wrapping_add_usize(first, x);
+    let third = std::num::wrapping_add_usize(second, y);
+    clients(args, first, x, c);
+    clocks(args, second, y, s);
+    clocks(args, third, z, e);
     Given {
         count: number(args, at) as usize,
-        len: len,
-        next: std::num::wrapping_add_usize(third, len),
+        x: x,
+        y: y,
+        z: z,
+        next: std::num::wrapping_add_usize(third, z),
     }
 }
 
@@ -332,46 +384,44 @@ fn both_cut(
     ac: &[u64],
     aa: &[u32],
     ae: &[u32],
-    x: usize,
-    n: usize,
+    p: Given,
     bc: &[u64],
     ba: &[u32],
     be: &[u32],
-    y: usize,
-    m: usize,
+    q: Given,
     c: &mut [u64],
     s: &mut [u32],
     e: &mut [u32],
 ) {
-    if ac.len() < x {
+    if ac.len() < p.x {
         return;
     }
-    if aa.len() < x {
+    if aa.len() < p.y {
         return;
     }
-    if ae.len() < x {
+    if ae.len() < p.z {
         return;
     }
-    if bc.len() < y {
+    if bc.len() < q.x {
         return;
     }
-    if ba.len() < y {
+    if ba.len() < q.y {
         return;
     }
-    if be.len() < y {
+    if be.len() < q.z {
         return;
     }
     both_out(
         op,
         args,
-        &ac[..x],
-        &aa[..x],
-        &ae[..x],
-        n,
-        &bc[..y],
-        &ba[..y],
-        &be[..y],
-        m,
+        &ac[..p.x],
+        &aa[..p.y],
+        &ae[..p.z],
+        p.count,
+        &bc[..q.x],
+        &ba[..q.y],
+        &be[..q.z],
+        q.count,
         c,
         s,
         e,
@@ -393,23 +443,7 @@ fn both_in(
 ) {
     let p = table(args, 3, ac, aa, ae);
     let q = table(args, p.next, bc, ba, be);
-    both_cut(
-        op,
-        args,
-        ac,
-        aa,
-        ae,
-        p.len,
-        p.count,
-        bc,
-        ba,
-        be,
-        q.len,
-        q.count,
-        c,
-        s,
-        e,
-    );
+    both_cut(op, args, ac, aa, ae, p, bc, ba, be, q, c, s, e);
 }
 
 // The case of a routine over two tables.
@@ -502,22 +536,31 @@ fn edit_cut(
     ac: &[u64],
     aa: &[u32],
     ae: &[u32],
-    x: usize,
-    n: usize,
+    p: Given,
     c: &mut [u64],
     s: &mut [u32],
     e: &mut [u32],
 ) {
-    if ac.len() < x {
+    if ac.len() < p.x {
         return;
     }
-    if aa.len() < x {
+    if aa.len() < p.y {
         return;
     }
-    if ae.len() < x {
+    if ae.len() < p.z {
         return;
     }
-    edit_out(op, args, &ac[..x], &aa[..x], &ae[..x], n, c, s, e);
+    edit_out(
+        op,
+        args,
+        &ac[..p.x],
+        &aa[..p.y],
+        &ae[..p.z],
+        p.count,
+        c,
+        s,
+        e,
+    );
 }
 
 fn one_in(
@@ -532,7 +575,7 @@ fn one_in(
     e: &mut [u32],
 ) {
     let p = table(args, first, ac, aa, ae);
-    edit_cut(op, args, ac, aa, ae, p.len, p.count, c, s, e);
+    edit_cut(op, args, ac, aa, ae, p, c, s, e);
 }
 
 // The case of an insert or a capture.
@@ -586,22 +629,22 @@ fn question(op: u8, args: &[u64], c: &[u64], s: &[u32], e: &[u32], n: usize) {
     }
 }
 
-fn question_cut(op: u8, args: &[u64], c: &[u64], s: &[u32], e: &[u32], x: usize, n: usize) {
-    if c.len() < x {
+fn question_cut(op: u8, args: &[u64], c: &[u64], s: &[u32], e: &[u32], p: Given) {
+    if c.len() < p.x {
         return;
     }
-    if s.len() < x {
+    if s.len() < p.y {
         return;
     }
-    if e.len() < x {
+    if e.len() < p.z {
         return;
     }
-    question(op, args, &c[..x], &s[..x], &e[..x], n);
+    question(op, args, &c[..p.x], &s[..p.y], &e[..p.z], p.count);
 }
 
 fn ask_in(op: u8, args: &[u64], first: usize, c: &mut [u64], s: &mut [u32], e: &mut [u32]) {
     let p = table(args, first, c, s, e);
-    question_cut(op, args, c, s, e, p.len, p.count);
+    question_cut(op, args, c, s, e, p);
 }
 
 // The case of a question about a table, with an id before it or none.

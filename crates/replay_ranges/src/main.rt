@@ -3,6 +3,7 @@
 //
 // A table is COUNT LEN and LEN elements: a lent slice of LEN elements with that count. OUT is the length of the output slice, at most
 // 4,096; each of its elements is 4294967295 before the call. At most 4,096 elements are taken of a table, and a missing number is 0.
+// FROM+STEP*N stands for N numbers: FROM and then each STEP above the one before it.
 //
 //     m OUT TABLE TABLE       merge           NO COUNT LEFT ELEMENT..
 //     x OUT TABLE TABLE       exclude         the same
@@ -38,19 +39,47 @@ fn digit(x: u64, c: u8) -> u64 {
     if 57 < c {
         return 0;
     }
-    if 1844674407370955160 < x {
+    if 1844674407370955161 < x {
         return 0;
     }
+    let y = x * 10;
     let d = (c - 48) as u64;
-    x * 10 + d
+    if 18446744073709551615 - y < d {
+        return 0;
+    }
+    y + d
 }
 
-// x as the next number where it is wanted and there is room, and how many there are then.
-fn put(args: &mut [u64], k: usize, x: u64, wanted: bool) -> usize
+// The rest of n numbers, each `step` above the one before it, from place k on, and how many numbers there are then.
+fn rest(args: &mut [u64], k: usize, step: u64, n: u64) -> usize
     ensures { λ _. ⌜ length (now (args .exit)) ≡ length (now (args .entry)) ⌝ }
 {
-    if !wanted {
+    let mut k = k;
+    let mut i: u64 = 1;
+    while i < n {
+        if args.len() <= k {
+            return k;
+        }
+        if k == 0 {
+            return k;
+        }
+        let x = std::num::wrapping_add_u64(args[k - 1], step);
+        args[k] = x;
+        k += 1;
+        i += 1;
+    }
+    k
+}
+
+// A number x that ended, with the byte before it: the next number, or how many follow by the step. How many numbers there are then.
+fn put(args: &mut [u64], k: usize, x: u64, step: u64, lead: u8) -> usize
+    ensures { λ _. ⌜ length (now (args .exit)) ≡ length (now (args .entry)) ⌝ }
+{
+    if lead == b'+' {
         return k;
+    }
+    if lead == b'*' {
+        return rest(args, k, step, x);
     }
     if args.len() <= k {
         return k;
@@ -60,17 +89,41 @@ fn put(args: &mut [u64], k: usize, x: u64, wanted: bool) -> usize
     next
 }
 
+// The same where a number ended; otherwise nothing.
+fn put_if(args: &mut [u64], k: usize, x: u64, step: u64, lead: u8, ended: bool) -> usize
+    ensures { λ _. ⌜ length (now (args .exit)) ≡ length (now (args .entry)) ⌝ }
+{
+    if ended {
+        put(args, k, x, step, lead)
+    } else {
+        k
+    }
+}
+
+// The step after a number x.
+fn stepped(step: u64, x: u64, lead: u8, ended: bool) -> u64 {
+    if !ended {
+        return step;
+    }
+    if lead == b'+' { x } else { 0 }
+}
+
 // The numbers of the line that starts at `from`.
 fn line(b: &[u8], from: usize, args: &mut [u64]) -> Read {
     let mut i = from;
     let mut k: usize = 0;
     let mut x: u64 = 0;
+    let mut step: u64 = 0;
+    let mut lead: u8 = 32;
     let mut within = false;
     while i < b.len() {
         let c = b[i];
         i += 1;
         let is_digit = (48 <= c) & (c < 58);
-        k = put(args, k, x, within & !is_digit);
+        let ended = within & !is_digit;
+        k = put_if(args, k, x, step, lead, ended);
+        step = stepped(step, x, lead, ended);
+        lead = if is_digit { lead } else { c };
         x = digit(x, c);
         within = is_digit;
         if c == 10 {

@@ -1,6 +1,7 @@
 //! lists ROOT: the stored lists of the programs crates/replay_..: `stdin` and `stdout` of each, made again byte for byte. What is expected
 //! comes from the original; from the model where the original has no such answer (LONG and RANGE apart, FULL, MALFORMED, SIGN, the listed
-//! differences); never from our library, which isn't called here. The cases of oracle/lists come first: their answers were written by hand. Each program's main.rt says its line format.
+//! differences); never from our library, which isn't called here. The cases of oracle/lists come first: their answers were written by hand,
+//! and the original and the model must say the same. Each program's main.rt says its line format.
 use oracle::case::{Op::*, *};
 use oracle::rng::Rng;
 use oracle::{gen, model, original};
@@ -18,13 +19,25 @@ fn right(c: &Case) -> Answer {
 #[derive(Default)]
 struct List { stdin: String, stdout: String, cases: usize }
 impl List {
-    /// The cases of oracle/lists, whose answers were written by hand from document 01, open a list.
-    fn by_hand(root: &str, name: &str) -> List {
-        let text = |kind: &str| std::fs::read_to_string(format!("{root}/oracle/lists/{name}.{kind}")).unwrap();
+    /// The cases of oracle/lists open a list. A line `CASE = ANSWER` is answered so by the original; `CASE : ANSWER` stands outside the
+    /// comparison, and document 01 alone answers it; `LINE ! ANSWER` is no call, and the answer is the program's own. `#` starts a comment.
+    fn by_hand(root: &str, name: &str, case: fn(&str) -> Case, said: fn(&Case) -> Option<(String, String)>) -> List {
         let mut l = List::default();
-        for (line, answer) in text("stdin").lines().zip(text("stdout").lines()) { l.add_in_block(line.into(), answer.into()) }
+        for text in std::fs::read_to_string(format!("{root}/oracle/lists/{name}.txt")).unwrap().lines().filter(|t| !t.is_empty() && !t.starts_with('#')) {
+            let (i, sign) = text.match_indices([':', '=', '!']).next().unwrap();
+            let (line, mut answer) = (text[..i].trim_end(), expanded(text[i + 1..].trim()));
+            if sign != "!" {
+                let c = case(line);
+                assert_eq!(original::answer(&c).is_some(), sign == "=", "is it in the comparison? {text}");
+                let right = if line.starts_with("length") { right(&c).next.to_string() } else { said(&c).unwrap().1 };
+                assert!(answer == right.trim_end(), "{text}\n  is answered {right}");
+                answer = right; // with the space before no byte
+            }
+            l.add_in_block(line.into(), answer);
+        }
         l
     }
+    fn see(&mut self, (line, answer): (String, String)) { self.add_in_block(line, answer) }
     fn add(&mut self, line: String, answer: String) { self.stdin += &line; self.stdin.push('\n'); self.stdout += &answer; self.stdout.push('\n'); self.cases += 1 }
     /// No line goes over the end of a block: spaces fill what is left of it.
     fn add_in_block(&mut self, line: String, answer: String) {
@@ -38,22 +51,79 @@ impl List {
         println!("{name}: {} cases, {} and {} bytes", self.cases, self.stdin.len(), self.stdout.len());
     }
 }
+/// The numbers that a word stands for: FROM+STEP*N is N numbers, FROM and then each STEP above the one before it.
+fn spread(word: &str) -> Option<Vec<u64>> {
+    let Some((from, rest)) = word.split_once('+') else { return Some(vec![word.parse().ok()?]) };
+    let (step, n) = rest.split_once('*')?;
+    let (from, step, n): (u64, u64, u64) = (from.parse().ok()?, step.parse().ok()?, n.parse().ok()?);
+    Some((0..n).map(|i| from.wrapping_add(step.wrapping_mul(i))).collect())
+}
+fn expanded(answer: &str) -> String { answer.split(' ').map(|w| spread(w).map_or(w.into(), |v| words(&v).trim_start().to_string())).collect::<Vec<_>>().join(" ") }
+/// The same numbers, eight or more that rise by one step as FROM+STEP*N.
+fn short<T: Copy + Into<u64>>(v: &[T]) -> String {
+    let v: Vec<u64> = v.iter().map(|&x| x.into()).collect();
+    let (mut s, mut i) = (String::new(), 0);
+    while i < v.len() {
+        let step = v.get(i + 1).and_then(|y| y.checked_sub(v[i]));
+        let n = step.map_or(1, |d| 1 + v[i..].windows(2).take_while(|w| w[1].checked_sub(w[0]) == Some(d)).count());
+        let n = if n < 8 { 1 } else { n };
+        if n == 1 { write!(s, " {}", v[i]).unwrap() } else { write!(s, " {}+{}*{n}", v[i], step.unwrap()).unwrap() }
+        i += n;
+    }
+    s
+}
+/// A line's letter and its numbers, taken one after another; a missing one is 0.
+struct Line { letter: char, numbers: std::vec::IntoIter<u64> }
+impl Line {
+    fn of(line: &str) -> Line { Line { letter: line.chars().next().unwrap(), numbers: line[1..].split_whitespace().flat_map(|w| spread(w).unwrap()).collect::<Vec<_>>().into_iter() } }
+    fn next(&mut self) -> u64 { self.numbers.next().unwrap_or(0) }
+    fn longs(&mut self, n: usize) -> Vec<u64> { (0..n).map(|_| self.next()).collect() }
+    fn ints(&mut self, n: usize) -> Vec<u32> { (0..n).map(|_| self.next() as u32).collect() }
+    fn table(&mut self, kind: Kind) -> Table {
+        let mut t = Table { n: self.next() as usize, ..Table::default() };
+        let x = if kind == Kind::Range { 0 } else { self.next() as usize };
+        let y = self.next() as usize;
+        let z = if kind == Kind::Id { self.next() as usize } else { 0 };
+        (t.longs, t.ints, t.more) = (self.longs(x), self.ints(y), self.ints(z));
+        t
+    }
+    /// An output of these lengths.
+    fn out(&mut self, kind: Kind) -> Table {
+        let x = if kind == Kind::Range { 0 } else { self.next() as usize };
+        let y = self.next() as usize;
+        let z = if kind == Kind::Id { self.next() as usize } else { 0 };
+        Table { n: 0, longs: vec![9; x], ints: vec![9; y], more: vec![9; z] }
+    }
+}
 fn hex(b: &[u8]) -> String { b.iter().map(|x| format!("{x:02x}")).collect() }
 
 // ---- numbers
 
 fn kind(i: Int, signed: bool) -> String { if signed { format!("s{}", i.name().trim_start_matches('i')) } else { i.name().to_string() } }
-fn number(l: &mut List, c: &Case) {
+fn number_case(line: &str) -> Case {
+    let w: Vec<&str> = line.split(' ').collect();
+    let op = ops().into_iter().find(|o| match o { Read(i) => w[0] == "read" && kind(*i, false) == w[1], ReadSigned(i) => w[0] == "read" && kind(*i, true) == w[1], Write(i) => w[0] != "read" && kind(*i, false) == w[1], WriteSigned(i) => w[0] != "read" && kind(*i, true) == w[1], _ => false }).unwrap();
+    let mut c = Case::of(op);
+    if w[0] == "length" { c.int = w[2].parse().unwrap(); c.bytes = vec![0xee; 24]; return c }
+    c.at = w[2].parse().unwrap();
+    if w[0] == "read" { let h = w.get(3).unwrap_or(&""); c.bytes = (0..h.len() / 2).map(|i| u8::from_str_radix(&h[2 * i..2 * i + 2], 16).unwrap()).collect(); return c }
+    c.bytes = vec![0xee; w[3].parse().unwrap()];
+    c.int = w[4].parse().unwrap();
+    c.flag = w.get(5) == Some(&"1");
+    c
+}
+fn number(l: &mut List, c: &Case) { let (line, answer) = number_said(c); l.add(line, answer) }
+fn number_said(c: &Case) -> (String, String) {
     let mut c = c.clone();
     match c.op {
         Read(i) => {
             let a = right(&c);
             let value = if i.least() < 0 { (a.value as i64).to_string() } else { a.value.to_string() };
-            l.add(format!("read {} {} {}", kind(i, false), c.at, hex(&c.bytes)).trim_end().into(), format!("{} {} {}", a.no, value, a.next))
+            (format!("read {} {} {}", kind(i, false), c.at, hex(&c.bytes)).trim_end().into(), format!("{} {} {}", a.no, value, a.next))
         }
         ReadSigned(i) => {
             let a = right(&c);
-            l.add(format!("read {} {} {}", kind(i, true), c.at, hex(&c.bytes)).trim_end().into(), format!("{} {} {} {}", a.no, a.value as i64, a.some as u8, a.next))
+            (format!("read {} {} {}", kind(i, true), c.at, hex(&c.bytes)).trim_end().into(), format!("{} {} {} {}", a.no, a.value as i64, a.some as u8, a.next))
         }
         Write(i) | WriteSigned(i) => {
             c.bytes = vec![0xee; c.bytes.len()];
@@ -61,7 +131,7 @@ fn number(l: &mut List, c: &Case) {
             let signed = matches!(c.op, WriteSigned(_));
             let mut line = format!("write {} {} {} {}", kind(i, signed), c.at, c.bytes.len(), c.int);
             if signed { write!(line, " {}", c.flag as u8).unwrap() }
-            l.add(line, format!("{} {} {}", a.no, a.next, hex(&a.bytes)))
+            (line, format!("{} {} {}", a.no, a.next, hex(&a.bytes)))
         }
         _ => unreachable!(),
     }
@@ -128,10 +198,18 @@ fn yes(a: &Answer) -> String { format!("{} {}", a.no, a.some as u8) }
 fn count(a: &Answer) -> String { format!("{} {}", a.no, a.value) }
 fn maybe(a: &Answer) -> String { if a.some { count(a) } else { format!("{} none", a.no) } }
 
-fn range_line(l: &mut List, c: &Case) {
-    // the program's numbers end below the largest of 64 bits
-    if c.start > 1 << 63 || c.a.n > 1 << 63 || c.b.n > 1 << 63 { return }
-    let t = |t: &Table| format!("{} {}{}", t.n, t.ints.len(), words(&t.ints));
+fn range_case(line: &str) -> Case {
+    let mut l = Line::of(line);
+    let mut c = Case::of(match l.letter { 'm' => Merge, 'x' => Exclude, 'i' => Intersect, 'n' => Insert, 'r' => Remove, 'f' => FromRanges, 'c' => Contains, 's' => FindStart, 'b' => ClockStart, 'e' => ClockEnd, 'l' => Len, 'z' => IsEmpty, 'g' => Get, _ => panic!("{line}") });
+    if c.op.gives_table() { c.out = l.out(Kind::Range) }
+    if matches!(c.op, Insert | Remove | Contains | FindStart | Get) { c.start = l.next() }
+    if matches!(c.op, Insert | Remove) { c.end = l.next() as u32 }
+    c.a = l.table(Kind::Range);
+    if c.op.two_tables() { c.b = l.table(Kind::Range) }
+    c
+}
+fn range_said(c: &Case) -> Option<(String, String)> {
+    let t = |t: &Table| format!("{} {}{}", t.n, t.ints.len(), short(&t.ints));
     let a = right(c);
     let made = || { let rows = 2 * a.out.n; format!("{} {} {}{}", a.no, a.out.n, a.out.ints[rows..].iter().filter(|x| **x != 0).count(), words(&a.out.ints[..rows])) };
     let (x, y, out) = (t(&c.a), t(&c.b), c.out.ints.len());
@@ -151,13 +229,22 @@ fn range_line(l: &mut List, c: &Case) {
         Get => (format!("g {} {x}", c.start), if a.some { format!("{} {} {}", a.no, a.value, a.second) } else { format!("{} none", a.no) }),
         _ => unreachable!(),
     };
-    l.add_in_block(line, answer)
+    Some((line, answer))
 }
-fn id_line(l: &mut List, c: &Case) {
-    // the program lends three slices of one length
-    let even = |t: &Table| t.longs.len() == t.ints.len() && t.longs.len() == t.more.len() && t.ints.len() <= 1100;
-    if !even(&c.a) || !even(&c.b) || c.out.longs.len().max(c.out.more.len()) > 1100 { return }
-    let t = |t: &Table| format!("{} {}{}{}{}", t.n, t.ints.len(), words(&t.longs), words(&t.ints), words(&t.more));
+fn id_case(line: &str) -> Case {
+    let mut l = Line::of(line);
+    let mut c = Case::of(match l.letter { 'm' => IdMerge, 'x' => IdDiff, 'i' => IdIntersect, 'n' => IdInsert, 'k' => IdCapture, 'c' => IdContains, 'z' => IdIsEmpty, 'l' => IdLen, _ => panic!("{line}") });
+    if c.op.gives_table() { c.out = l.out(Kind::Id) }
+    if matches!(c.op, IdInsert | IdContains) { c.client = l.next(); c.start = l.next() }
+    if c.op == IdInsert { c.end = l.next() as u32 }
+    c.a = l.table(Kind::Id);
+    if c.op.two_tables() { c.b = l.table(Kind::Id) }
+    c
+}
+/// None where a slice is longer than the program's.
+fn id_said(c: &Case) -> Option<(String, String)> {
+    if [&c.a, &c.b, &c.out].iter().any(|t| t.longs.len().max(t.ints.len()).max(t.more.len()) > 1100) { return None }
+    let t = |t: &Table| format!("{} {} {} {}{}{}{}", t.n, t.longs.len(), t.ints.len(), t.more.len(), short(&t.longs), short(&t.ints), short(&t.more));
     let a = right(c);
     let made = || {
         let (o, n) = (&a.out, a.out.n);
@@ -178,36 +265,51 @@ fn id_line(l: &mut List, c: &Case) {
         IdLen => (format!("l {x}"), count(&a)),
         _ => unreachable!(),
     };
-    l.add_in_block(line, answer)
+    Some((line, answer))
 }
-/// The program takes as many rows as it counts, one room for both slices, and 65,536 bytes in all.
-fn vector_line(l: &mut List, c: &Case) {
-    let mut c = c.clone();
-    for t in [&mut c.a, &mut c.b] {
-        if t.n > t.longs.len().min(t.ints.len()) { return }
-        t.longs.truncate(t.n);
-        t.ints.truncate(t.n);
+fn vector_case(line: &str) -> Case {
+    let mut l = Line::of(line);
+    let mut c = Case::of(match l.letter { 'm' => VecMerge, 'i' => VecSetMin, 'a' => VecSetMax, 'd' => VecDecode, 'e' => VecEncode, 'g' => VecGet, 'c' => VecCompare, _ => panic!("{line}") });
+    if c.op.gives_table() { c.out = l.out(Kind::Vector) }
+    match c.op {
+        VecSetMin | VecSetMax => { c.client = l.next(); c.start = l.next() }
+        VecGet => c.client = l.next(),
+        VecEncode => { c.bytes = vec![238; l.next() as usize]; c.at = l.next() as usize }
+        VecDecode => { c.at = l.next() as usize; c.bytes = l.numbers.map(|x| x as u8).collect(); return c }
+        _ => {}
     }
-    let room = c.out.longs.len().min(c.out.ints.len()).min(9);
-    if c.op.gives_table() { c.out = gen::room(Kind::Vector, room, 0) }
+    c.a = l.table(Kind::Vector);
+    if c.op.two_tables() { c.b = l.table(Kind::Vector) }
+    c
+}
+/// None where a slice is longer than the program's.
+fn vector_said(c: &Case) -> Option<(String, String)> {
+    let mut c = c.clone();
     if c.op == VecEncode { c.bytes = vec![238; c.bytes.len()] }
-    if c.a.n.max(c.b.n) > 300 || c.bytes.len() > 4096 { return }
-    let t = |t: &Table| format!("{}{}", t.n, (0..t.n).map(|i| format!(" {} {}", t.longs[i], t.ints[i])).collect::<String>());
+    c.out.longs.truncate(300);
+    c.out.ints.truncate(300);
+    if [&c.a, &c.b].iter().any(|t| t.longs.len().max(t.ints.len()) > 300) || c.bytes.len() > 4096 { return None }
+    let t = |t: &Table| format!("{} {} {}{}{}", t.n, t.longs.len(), t.ints.len(), short(&t.longs), short(&t.ints));
     let a = right(&c);
-    let rows = || (0..room).map(|i| format!(" {} {}", a.out.longs[i], a.out.ints[i])).collect::<String>();
-    let made = || format!("{} {}{}", a.no, a.out.n, rows());
+    let rows = || {
+        let (o, n) = (&a.out, a.out.n);
+        let left = o.longs[n..].iter().filter(|x| **x != 0).count() + o.ints[n..].iter().filter(|x| **x != 0).count();
+        format!("{left}{}", (0..n).map(|i| format!(" {} {}", o.longs[i], o.ints[i])).collect::<String>())
+    };
+    let made = || format!("{} {} {}", a.no, a.out.n, rows());
     let (x, y) = (t(&c.a), t(&c.b));
+    let out = format!("{} {}", c.out.longs.len(), c.out.ints.len());
     let (line, answer) = match c.op {
-        VecGet => (format!("g {x} {}", c.client), count(&a)),
-        VecSetMin => (format!("i {room} {x} {} {}", c.client, c.start), made()),
-        VecSetMax => (format!("a {room} {x} {} {}", c.client, c.start), made()),
-        VecMerge => (format!("m {room} {x} {y}"), made()),
-        VecDecode => (format!("d {room} {}{}", c.at, words(&c.bytes)), format!("{} {} {}{}", a.no, a.out.n, a.next, rows())),
+        VecGet => (format!("g {} {x}", c.client), count(&a)),
+        VecSetMin => (format!("i {out} {} {} {x}", c.client, c.start), made()),
+        VecSetMax => (format!("a {out} {} {} {x}", c.client, c.start), made()),
+        VecMerge => (format!("m {out} {x} {y}"), made()),
+        VecDecode => (format!("d {out} {}{}", c.at, words(&c.bytes)), format!("{} {} {} {}", a.no, a.out.n, a.next, rows())),
         VecEncode => (format!("e {} {} {x}", c.bytes.len(), c.at), format!("{} {}{}", a.no, a.next, words(&a.bytes))),
         VecCompare => (format!("c {x} {y}"), count(&a)),
         _ => unreachable!(),
     };
-    l.add(line, answer)
+    Some((line, answer))
 }
 fn vectors(mut l: List) -> List {
     // document 01's bytes and rows to try
@@ -221,20 +323,27 @@ fn vectors(mut l: List) -> List {
         with(VecCompare, &|c| { c.a = v(&[(1, 2), (2, 1)]); c.b = v(&[(1, 1), (2, 2)]) }),
         with(VecSetMin, &|c| { c.client = 3; c.start = 9 }),
     ];
-    for c in &cases { vector_line(&mut l, c) }
+    let mut see = |c: &Case| if let Some(said) = vector_said(c) { l.see(said) };
+    for c in &cases { see(c) }
+    // the longest vector, 3,842 bytes, into one byte less and into just enough, and back
+    let mut c = with(VecEncode, &|c| { c.a = v(&(0..256).map(|i| (u64::MAX - 255 + i, u32::MAX)).collect::<Vec<_>>()); c.bytes = vec![0; 3841] });
+    see(&c);
+    c.bytes.push(0);
+    see(&c);
+    let bytes = right(&c).bytes;
+    see(&with(VecDecode, &|c| { c.bytes = bytes.clone(); c.out = gen::room(Kind::Vector, 256, 1) }));
     let mut r = Rng(4);
-    let mut i = 0;
-    while l.stdin.len() < 62000 { gen::random_vector(&mut r, 1 + i % 4, &mut |c| vector_line(&mut l, c)); i += 1 }
-    assert!(l.stdin.len() < 65536);
+    for i in 0..110 { gen::random_vector(&mut r, 1 + i % 4, &mut see) }
+    for rows in [12, 40, 250] { gen::random_vector(&mut r, rows, &mut see) }
     l
 }
 /// Document 01's rows to try, as ranges and as ids of client 1.
-fn examples(l: &mut List, line: fn(&mut List, &Case), kind: Kind) {
+fn examples(see: &mut dyn FnMut(&Case), kind: Kind) {
     let t = |rows: &[(u32, u32)]| {
         let rows: Vec<_> = rows.iter().map(|r| (1, r.0, r.1)).collect();
         if kind == Kind::Range { gen::range_table(&rows) } else { gen::id_table(&rows) }
     };
-    let mut see = |op: Op, a: &[(u32, u32)], b: &[(u32, u32)], start: u32, end: u32| {
+    let mut try_it = |op: Op, a: &[(u32, u32)], b: &[(u32, u32)], start: u32, end: u32| {
         if op.kind() != kind { return }
         let mut c = Case::of(op);
         c.a = t(a);
@@ -243,27 +352,27 @@ fn examples(l: &mut List, line: fn(&mut List, &Case), kind: Kind) {
         c.start = start as u64;
         c.end = end;
         c.out = gen::room(kind, 4, 1);
-        line(l, &c)
+        see(&c)
     };
-    for op in [Insert, IdInsert] { see(op, &[(2, 5), (9, 10)], &[], 5, 7); see(op, &[(2, 5), (9, 10)], &[], 4, 9); see(op, &[], &[], 5, 5) }
-    see(Remove, &[(2, 5)], &[], 3, 4);
-    for op in [Merge, IdMerge] { see(op, &[(0, 3), (8, 9)], &[(3, 8)], 0, 0); see(op, &[(2, 5), (5, 7)], &[], 0, 0) }
-    for op in [Exclude, IdDiff] { see(op, &[(0, 10)], &[(2, 4), (6, 12)], 0, 0) }
-    for op in [Intersect, IdIntersect] { see(op, &[(0, 5), (7, 12)], &[(3, 8)], 0, 0) }
+    for op in [Insert, IdInsert] { try_it(op, &[(2, 5), (9, 10)], &[], 5, 7); try_it(op, &[(2, 5), (9, 10)], &[], 4, 9); try_it(op, &[], &[], 5, 5) }
+    try_it(Remove, &[(2, 5)], &[], 3, 4);
+    for op in [Merge, IdMerge] { try_it(op, &[(0, 3), (8, 9)], &[(3, 8)], 0, 0); try_it(op, &[(2, 5), (5, 7)], &[], 0, 0) }
+    for op in [Exclude, IdDiff] { try_it(op, &[(0, 10)], &[(2, 4), (6, 12)], 0, 0) }
+    for op in [Intersect, IdIntersect] { try_it(op, &[(0, 5), (7, 12)], &[(3, 8)], 0, 0) }
 }
-fn tables(mut l: List, seed: u64, kind: Kind, random: fn(&mut Rng, usize, &mut dyn FnMut(&Case)), line: fn(&mut List, &Case), small: usize, long: &[usize]) -> List {
+fn tables(mut l: List, seed: u64, kind: Kind, random: fn(&mut Rng, usize, &mut dyn FnMut(&Case)), said: fn(&Case) -> Option<(String, String)>, small: usize) -> List {
     let mut r = Rng(seed);
-    examples(&mut l, line, kind);
-    for i in 0..small { random(&mut r, 1 + i % 6, &mut |c| line(&mut l, c)) }
-    for &rows in long { random(&mut r, rows, &mut |c| line(&mut l, c)) }
+    let mut see = |c: &Case| if let Some(said) = said(c) { l.see(said) };
+    examples(&mut see, kind);
+    for i in 0..small { random(&mut r, 1 + i % 6, &mut see) }
+    for rows in [12, 25, 40, 64] { random(&mut r, rows, &mut see) }
     l
 }
 
 fn main() {
     let root = std::env::args().nth(1).expect("ROOT");
-    let has = |name: &str| std::path::Path::new(&format!("{root}/crates/{name}")).exists();
-    if has("replay_numbers") { numbers(List::by_hand(&root, "numbers")).write(&root, "replay_numbers") }
-    if has("replay_ranges") { tables(List::by_hand(&root, "ranges"), 2, Kind::Range, gen::random_range, range_line, 150, &[12, 25, 40, 64]).write(&root, "replay_ranges") }
-    if has("replay_vectors") { vectors(List::by_hand(&root, "vectors")).write(&root, "replay_vectors") }
-    if has("replay_ids") { tables(List::default(), 3, Kind::Id, gen::random_id, id_line, 220, &[12, 25, 40, 64]).write(&root, "replay_ids") }
+    numbers(List::by_hand(&root, "numbers", number_case, |c| Some(number_said(c)))).write(&root, "replay_numbers");
+    tables(List::by_hand(&root, "ranges", range_case, range_said), 2, Kind::Range, gen::random_range, range_said, 150).write(&root, "replay_ranges");
+    tables(List::by_hand(&root, "ids", id_case, id_said), 3, Kind::Id, gen::random_id, id_said, 220).write(&root, "replay_ids");
+    vectors(List::by_hand(&root, "vectors", vector_case, vector_said)).write(&root, "replay_vectors");
 }

@@ -1,16 +1,16 @@
 -- `replay_vectors::bytes` meets its contract. Assumes nothing.
 use mathlib.Core.Path.{_≡_}
-use Prim.Native.Nat.{_≤_, _-_}
+use Prim.Native.Nat.{_-_}
 use lib.ListN.{length}
 use borrow.Author.Needs.{needs}
 use Rattle.replay_vectors.proofs.bytes.Statement.{statement}
 use Rattle.replay_vectors.proofs.bytes.Tie as tie
 
 abbrev Inv-loop : tie.InvT-loop
-Inv-loop args n from out₀ i₀ j₀ out i j = length out ≡ length out₀
+Inv-loop args from out₀ i₀ j₀ out i j = length out ≡ length out₀
 
 abbrev μ-loop : tie.MeasureT-loop
-μ-loop args n from out₀ i₀ j₀ out i j = length out₀ - i
+μ-loop args from out₀ i₀ j₀ out i j = length out₀ - i
 
 pub bytes-spec : {M : Type 1} → statement M
 bytes-spec =
@@ -21,7 +21,8 @@ bytes-spec =
     (λ c. search needs)
     (λ c. search needs)
     (λ c. search needs)
-    (λ c κs. search needs)
+    (λ c. search needs)
+    (λ c. search needs)
     (λ c. search needs)
     (λ c. search needs)
     (λ c. search needs)

@@ -1,16 +1,16 @@
 -- `replay_vectors::clients` meets its contract. Assumes nothing.
 use mathlib.Core.Path.{_≡_}
-use Prim.Native.Nat.{_≤_, _-_}
+use Prim.Native.Nat.{_-_}
 use lib.ListN.{length}
 use borrow.Author.Needs.{needs}
 use Rattle.replay_vectors.proofs.clients.Statement.{statement}
 use Rattle.replay_vectors.proofs.clients.Tie as tie
 
 abbrev Inv-loop : tie.InvT-loop
-Inv-loop args n from out₀ i₀ out i = length out ≡ length out₀
+Inv-loop args from n out₀ i₀ out i = length out ≡ length out₀
 
 abbrev μ-loop : tie.MeasureT-loop
-μ-loop args n from out₀ i₀ out i = length out₀ - i
+μ-loop args from n out₀ i₀ out i = n - i
 
 pub clients-spec : {M : Type 1} → statement M
 clients-spec =
@@ -21,8 +21,7 @@ clients-spec =
     (λ c. search needs)
     (λ c. search needs)
     (λ c. search needs)
-    (λ c. search needs)
-    (λ c. search needs)
+    (λ c κs. search needs)
     (λ c κs. search needs)
     (λ c. search needs)
     (λ c. search needs)

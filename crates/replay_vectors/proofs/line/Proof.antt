@@ -1,16 +1,16 @@
 -- `replay_vectors::line` meets its contract. Assumes nothing.
 use mathlib.Core.Path.{_≡_}
-use Prim.Native.Nat.{_≤_, _-_}
+use Prim.Native.Nat.{_-_}
 use lib.ListN.{length}
 use borrow.Author.Needs.{needs}
 use Rattle.replay_vectors.proofs.line.Statement.{statement}
 use Rattle.replay_vectors.proofs.line.Tie as tie
 
 abbrev Inv-loop : tie.InvT-loop
-Inv-loop b from args₀ i₀ k₀ x₀ within₀ args i k x within = length args ≡ length args₀
+Inv-loop b from args₀ i₀ k₀ x₀ step₀ lead₀ within₀ args i k x step lead within = length args ≡ length args₀
 
 abbrev μ-loop : tie.MeasureT-loop
-μ-loop b from args₀ i₀ k₀ x₀ within₀ args i k x within = length b - i
+μ-loop b from args₀ i₀ k₀ x₀ step₀ lead₀ within₀ args i k x step lead within = length b - i
 
 pub line-spec : {M : Type 1} → statement M
 line-spec =
@@ -21,6 +21,7 @@ line-spec =
     (λ c. search needs)
     (λ c. search needs)
     (λ c. search needs)
+    (λ c κs. search needs)
     (λ c κs. search needs)
     (λ c κs. search needs)
     (λ c. search needs)

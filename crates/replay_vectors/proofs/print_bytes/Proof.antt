@@ -1,6 +1,5 @@
 -- `replay_vectors::print_bytes` meets its contract. Assumes nothing.
-use mathlib.Core.Path.{_≡_}
-use Prim.Native.Nat.{_≤_, _-_}
+use Prim.Native.Nat.{_-_}
 use lib.ListN.{length}
 use borrow.Author.Needs.{needs}
 use Rattle.replay_vectors.proofs.print_bytes.Statement.{statement}

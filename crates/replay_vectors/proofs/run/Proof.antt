@@ -1,16 +1,16 @@
 -- `replay_vectors::run` meets its contract. Assumes nothing.
 use mathlib.Core.Path.{_≡_}
-use Prim.Native.Nat.{_-_}
+use Prim.Native.Nat.{_≤_, _-_}
 use lib.ListN.{length}
 use borrow.Author.Needs.{needs}
 use Rattle.replay_vectors.proofs.run.Statement.{statement}
 use Rattle.replay_vectors.proofs.run.Tie as tie
 
 abbrev Inv-loop : tie.InvT-loop
-Inv-loop b args₀ at₀ args at = length args ≡ length args₀
+Inv-loop b args₀ at₀ turns₀ args at turns = (turns ≤ 65536) × (length args ≡ length args₀)
 
 abbrev μ-loop : tie.MeasureT-loop
-μ-loop b args₀ at₀ args at = length b - at
+μ-loop b args₀ at₀ turns₀ args at turns = 65536 - turns
 
 pub run-spec : {M : Type 1} → statement M
 run-spec =
@@ -20,10 +20,13 @@ run-spec =
     μ-loop
     (λ c. search needs)
     (λ c. search needs)
-    (λ c κs. search needs)
+    (λ c. search needs)
+    (λ c. search needs)
     (λ c. search needs)
     (λ c. search needs)
     (λ c κs. search needs)
+    (λ c κs. search needs)
+    (λ c. search needs)
     (λ c. search needs)
     (λ c. search needs)
     (λ c. search needs)

@@ -1,26 +1,27 @@
--- `replay_vectors::writing` meets its contract. Assumes nothing.
+-- `replay_vectors::decode_cut` meets its contract. Assumes nothing.
 use mathlib.Core.Path.{sym}
 use native.Mathlib.Omega.{arith}
 use lib.Seq.{length-take-le}
 use borrow.Author.Needs.{needs}
-use Rattle.replay_vectors.proofs.writing.Statement.{statement}
-use Rattle.replay_vectors.proofs.writing.Tie as tie
+use Rattle.replay_vectors.proofs.decode_cut.Statement.{statement}
+use Rattle.replay_vectors.proofs.decode_cut.Tie as tie
 
-pub writing-spec : {M : Type 1} → statement M
-writing-spec =
+pub decode-cut-spec : {M : Type 1} → statement M
+decode-cut-spec =
     tie.close
     (tie.spec
+    (λ c. search needs)
+    (λ c κs. search needs)
+    (λ c κs. search needs)
+    (λ c κs. search needs)
+    (λ c κs. search needs)
+    (λ c. sym (length-take-le _ _ (omega arith)))
+    (λ c κs. search needs)
+    (λ c. search needs)
+    (λ c. sym (length-take-le _ _ (omega arith)))
+    (λ c. search needs)
+    (λ c. sym (length-take-le _ _ (omega arith)))
     (λ c κs. search needs)
     (λ c. search needs)
     (λ c. search needs)
-    (λ c. sym (length-take-le _ _ (omega arith)))
-    (λ c. search needs)
-    (λ c. sym (length-take-le _ _ (omega arith)))
-    (λ c κs. search needs)
-    (λ c. search needs)
-    (λ c. search needs)
-    (λ c. sym (length-take-le _ _ (omega arith)))
-    (λ c. search needs)
-    (λ c. sym (length-take-le _ _ (omega arith)))
-    (λ c κs. search needs)
     (λ c. search needs))
