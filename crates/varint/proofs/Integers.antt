@@ -21,13 +21,16 @@ use mir.ValLaws.{half-full}
 use mir.Facts.{toZ-pos, toZ-ofZ}
 use Rattle.varint.specs.Number.{Answer, done, refused, joined, reads, readBy, tenth, signed, written, bytesOf}
 use Rattle.varint.specs.Integer.{minusAt, signedBytes, intBytes}
-use Rattle.varint.specs.Inner.{Stored}
+use Rattle.varint.specs.Inner.{Stored, restAt}
 use Rattle.varint.proofs.Reading.{Going, over, ended, last, more}
 use Rattle.varint.proofs.Writing.{lt-or-ge, spare, bytes-most, past, ten, counted, room-there, full, wrote-all}
 
 -- The reader's loop, which goes from shift 6, after the first byte, to 69.
-abbrev pub SignedBits : (at : ℕ) → List ℕ → (acc s p : ℕ) → Type 0
-SignedBits at xs acc s p = Going tenth 69 64 at xs (readBy signed xs at) acc s p
+abbrev pub SignedBits : (at first from : ℕ) → List ℕ → (acc s p : ℕ) → Type 0
+SignedBits at first from xs acc s p = Going tenth 69 64 at xs (restAt xs at first from) acc s p
+
+pub start-bits : (at first from : ℕ) (xs : List ℕ) → SignedBits at first from xs first 6 from
+start-bits at first from xs = record { same = refl; sevens = refl }
 
 -- the first byte's six bits, at shift 0
 pub first-joined : (b : ℕ) → joined 64 0 0 (b % 64) ≡ b % 64
@@ -43,9 +46,9 @@ module _ (at : ℕ) (xs : List ℕ) where
     unfolding reads
     only-first b = rw (drop-cons xs at 0 l, lt-ltb _ _ b, first-joined (getD xs at 0))
 
-    pub start-bits : 128 ≤ getD xs at 0 → SignedBits at xs (getD xs at 0 % 64) 6 (at + 1)
+    pub goes-on : {x : Answer} → 128 ≤ getD xs at 0 → x ≡ restAt xs at (getD xs at 0 % 64) (at + 1) → x ≡ readBy signed xs at
     unfolding reads
-    start-bits b = record { same = rw (drop-cons xs at 0 l, le-ltb _ _ b, first-joined (getD xs at 0), add-one); sevens = refl }
+    goes-on b e = e ∙ rw (drop-cons xs at 0 l, le-ltb _ _ b, first-joined (getD xs at 0), add-one)
 
 -- the tenth byte went on
 module _ {at acc s p : ℕ} {xs : List ℕ} {a : Answer} (g : Going tenth 69 64 at xs a acc s p) (all : 69 ≤ s) where
@@ -56,7 +59,7 @@ module _ {at acc s p : ℕ} {xs : List ℕ} {a : Answer} (g : Going tenth 69 64 
   over-long l = rw (drop-cons xs p 0 l) at (over g all)
 
 -- for `search`: what answers each need of the signed reader
-pub ruleset signed-reading = (no-first, only-first, start-bits, ended, last, more, over-end, over-long, needs)
+pub ruleset signed-reading = (no-first, only-first, goes-on, start-bits, ended, last, more, over-end, over-long, needs)
 
 -- past the end no byte has the minus bit
 getD-past : (xs : List ℕ) (at : ℕ) → length xs ≤ at → getD xs at 0 ≡ 0
