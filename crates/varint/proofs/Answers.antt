@@ -3,8 +3,11 @@ use Prim.Native.Nat.{ℕ, _-_, _^_, _<_, _≤_}
 use mathlib.Core.Path.{_≡_, refl, sym, ap, _∙_}
 use mathlib.Core.Bool.{Bool, true, false}
 use mathlib.Core.List.{List}
+use mathlib.Core.Logic.{⊎-elim}
+use native.Mathlib.Omega.{arith}
 use borrow.Author.Needs.{needs}
 use borrow.Author.Tests.{lt-ltb, le-ltb}
+use lib.ListN.{length}
 use lib.IntN.{ℤ, pos, natAbs}
 use lib.Signed.{mag, ltZ}
 use mir.Syntax.{Width, w64}
@@ -24,7 +27,8 @@ use Rattle.varint.specs.declared.SignedI64.{SignedI64}
 use Rattle.varint.specs.declared.ReadSignedI64.{ReadSignedI64}
 use Rattle.varint.specs.declared.ReadSignedI64.the-variants as signed-i64
 use Rattle.varint.proofs.Chaining.{refuses}
-use Rattle.varint.proofs.Integers.{bitsOf}
+use Rattle.varint.proofs.Writing.{lt-or-ge}
+use Rattle.varint.proofs.Integers.{bitsOf, no-first}
 
 abbrev pub doneInt : ℤ → Bool → ℕ → IntAnswer
 doneInt v b p = record { no = 0; value = v; negative = b; place = p }
@@ -35,11 +39,15 @@ module _ (at : ℕ) (xs : List ℕ) {r : ReadU64} (said : said64 at r ≡ readBy
   unfolding signedAt andThen
   signed-done e m s q = rw (q, s, m, ← said, e)
 
+  -- of a number that was read there is a first byte
+  pub first-there : {p next : ℕ} → r ≡ u64.Done p next → at < length xs
+  first-there e = ⊎-elim (λ (h : at < length xs). h) (λ (h : length xs ≤ at). let z : _≡_ {A = ℕ} 1 0 = ap (λ (a : Answer). a .no) (no-first at xs h ∙ rw e at (sym said)) in absurd (omega arith)) (lt-or-ge at (length xs))
+
   pub signed-refused : {n : Refusal} → r ≡ u64.Refused n → refusedInt (noOf n) at ≡ signedAt xs at
   unfolding signedAt andThen
   signed-refused {n} e = rw (← said, e, refuses n)
 
-pub ruleset signed-answer = (signed-done, signed-refused, needs)
+pub ruleset signed-answer = (first-there, signed-done, signed-refused, needs)
 
 -- what is known of an answer that a reader takes apart
 module _ (at : ℕ) {a : IntAnswer} where

@@ -20,14 +20,17 @@ use mir.Val.{Fits, SFits, toZ, ofZ, bits, hbits}
 use mir.ValLaws.{half-full}
 use mir.Facts.{toZ-pos, toZ-ofZ}
 use Rattle.varint.specs.Number.{Answer, done, refused, joined, reads, readBy, tenth, signed, written, bytesOf}
-use Rattle.varint.specs.Integer.{minusAt, signedBytes, intBytes}
-use Rattle.varint.specs.Inner.{Stored}
+use Rattle.varint.specs.Integer.{signedBytes, intBytes}
+use Rattle.varint.specs.Inner.{Stored, restAt}
 use Rattle.varint.proofs.Reading.{Going, over, ended, last, more}
-use Rattle.varint.proofs.Writing.{lt-or-ge, spare, bytes-most, past, ten, counted, room-there, full, wrote-all}
+use Rattle.varint.proofs.Writing.{lt-or-ge, spare, bytes-most, at-end, single, room-there, full, wrote-all}
 
 -- The reader's loop, which goes from shift 6, after the first byte, to 69.
-abbrev pub SignedBits : (at : ℕ) → List ℕ → (acc s p : ℕ) → Type 0
-SignedBits at xs acc s p = Going tenth 69 64 at xs (readBy signed xs at) acc s p
+abbrev pub SignedBits : (at first from : ℕ) → List ℕ → (acc s p : ℕ) → Type 0
+SignedBits at first from xs acc s p = Going tenth 69 64 at xs (restAt xs at first from) acc s p
+
+pub start-bits : (at first from : ℕ) (xs : List ℕ) → SignedBits at first from xs first 6 from
+start-bits at first from xs = record { same = refl; sevens = refl }
 
 -- the first byte's six bits, at shift 0
 pub first-joined : (b : ℕ) → joined 64 0 0 (b % 64) ≡ b % 64
@@ -43,9 +46,9 @@ module _ (at : ℕ) (xs : List ℕ) where
     unfolding reads
     only-first b = rw (drop-cons xs at 0 l, lt-ltb _ _ b, first-joined (getD xs at 0))
 
-    pub start-bits : 128 ≤ getD xs at 0 → SignedBits at xs (getD xs at 0 % 64) 6 (at + 1)
+    pub goes-on : {x : Answer} → 128 ≤ getD xs at 0 → x ≡ restAt xs at (getD xs at 0 % 64) (at + 1) → x ≡ readBy signed xs at
     unfolding reads
-    start-bits b = record { same = rw (drop-cons xs at 0 l, le-ltb _ _ b, first-joined (getD xs at 0), add-one); sevens = refl }
+    goes-on b e = e ∙ rw (drop-cons xs at 0 l, le-ltb _ _ b, first-joined (getD xs at 0), add-one)
 
 -- the tenth byte went on
 module _ {at acc s p : ℕ} {xs : List ℕ} {a : Answer} (g : Going tenth 69 64 at xs a acc s p) (all : 69 ≤ s) where
@@ -56,16 +59,7 @@ module _ {at acc s p : ℕ} {xs : List ℕ} {a : Answer} (g : Going tenth 69 64 
   over-long l = rw (drop-cons xs p 0 l) at (over g all)
 
 -- for `search`: what answers each need of the signed reader
-pub ruleset signed-reading = (no-first, only-first, start-bits, ended, last, more, over-end, over-long, needs)
-
--- past the end no byte has the minus bit
-getD-past : (xs : List ℕ) (at : ℕ) → length xs ≤ at → getD xs at 0 ≡ 0
-getD-past [] at h = refl
-getD-past (x ∷ xs) zero h = absurd (lt-irrefl 0 (omega arith))
-getD-past (x ∷ xs) (suc at) h = getD-past xs at (omega arith)
-
-pub no-minus : (xs : List ℕ) (at : ℕ) → length xs ≤ at → false ≡ minusAt xs at
-no-minus xs at h = rw (getD-past xs at h)
+pub ruleset signed-reading = (no-first, only-first, goes-on, start-bits, ended, last, more, over-end, over-long, needs)
 
 -- The bytes: a first one, and those of the rest of the magnitude.
 module _ (minus : Bool) (m : ℕ) where
@@ -139,29 +133,16 @@ module _ (v : ℤ) {d : ℕ} (f : SFits w64 v) (told : d ≡ mag (bitsOf w64 v))
 pub length-int : (v : ℤ) {k r : ℕ} → SFits w64 v → k ≡ natAbs (bitsOf w64 v) → r ≡ length (signedBytes false k) → r ≡ length (intBytes v)
 length-int v f e h = h ∙ rw (e, toZ-ofZ f) (sym (sign-length (ltZ v (pos 0)) (natAbs v)))
 
-pub ruleset sizes = (one-more-fits, below-zero, not-below-zero, length-int, needs)
+pub ruleset sizes = (one-more-fits, below-zero, not-below-zero, length-one, length-small, length-more, length-int, needs)
 
 -- The writer puts a first byte, with the sign's bit f, and the bytes of the rest of the magnitude.
 pub flag-small : (b : Bool) → cond b 64 0 ≤ 64
 flag-small true = omega arith
 flag-small false = omega arith
 
-pub first-within : (minus : Bool) (m at : ℕ) (buf : List ℕ) → Fits w64 m → at + length (signedBytes minus m) ≤ length buf → at < length buf
-first-within minus m at buf f r =
-    ⊎-elim (λ (h : m < 64). omega (arith, ap length (signed-last minus m h), r))
-    (λ (h : 64 ≤ m). omega (arith, ap length (signed-more minus m h (f .fits)), r))
-    (lt-or-ge m 64)
-
-module _ (minus : Bool) (m at : ℕ) (buf : List ℕ) {f : ℕ} (e : f ≡ cond minus 64 0) where
-  pub only-byte : m < 64 → Stored (signedBytes minus m) buf at (set buf at (m + f)) (at + 1)
-  only-byte h = rw (e, signed-last minus m h) (record { place = refl; bytes = refl })
-
-  module _ (fits : Fits w64 m) (h : 64 ≤ m) where
-    pub rest-room : at + length (signedBytes minus m) ≤ length buf → at + 1 + length (bytesOf (m / 64)) ≤ length (set buf at (128 + m % 64 + f))
-    rest-room r = rw length-set (omega (arith, ap length (signed-more minus m h (fits .fits)), r))
-
-    pub rest-put : {after : List ℕ} {p : ℕ} → Stored (bytesOf (m / 64)) (set buf at (128 + m % 64 + f)) (at + 1) after p → Stored (signedBytes minus m) buf at after p
-    rest-put s = rw (signed-more minus m h (fits .fits)) (record { place = s .place ∙ omega arith; bytes = s .bytes ∙ rw (e, add-one) })
+module _ (minus : Bool) (m : ℕ) {f : ℕ} (e : f ≡ cond minus 64 0) where
+  pub only-byte : m < 64 → signedBytes minus m ≡ (m + f) ∷ []
+  only-byte h = rw e (signed-last minus m h)
 
   pub small-fits : m < 64 → Fits w8 (m + f)
   small-fits h = record { fits = omega (arith, e, flag-small minus) }
@@ -169,13 +150,23 @@ module _ (minus : Bool) (m at : ℕ) (buf : List ℕ) {f : ℕ} (e : f ≡ cond 
   pub large-fits : Fits w8 (128 + m % 64 + f)
   large-fits = record { fits = omega (arith, e, flag-small minus) }
 
+  pub rest-put : {at : ℕ} {buf after : List ℕ} {p : ℕ} → Fits w64 m → 64 ≤ m → Stored (bytesOf (m / 64)) (set buf at (128 + m % 64 + f)) (at + 1) after p
+      → Stored (signedBytes minus m) buf at after p
+  rest-put fits h s = rw (signed-more minus m h (fits .fits)) (record { place = s .place ∙ omega arith; bytes = s .bytes ∙ rw (e, add-one) })
+
+module _ (minus : Bool) (m : ℕ) where
+  pub signed-some : 1 ≤ length (signedBytes minus m)
+  unfolding signedBytes written
+  signed-some = ⊎-elim (λ (h : m < 64). rw (lt-ltb m 64 h) (omega arith)) (λ (h : 64 ≤ m). rw (le-ltb m 64 h) (omega arith)) (lt-or-ge m 64)
+
+  -- the room for all of them is that for the rest, behind the first
+  pub rest-room : (at n : ℕ) {t : Bool} → Fits w64 m → 64 ≤ m → t ≡ leb (at + 1 + length (bytesOf (m / 64))) n → t ≡ leb (at + length (signedBytes minus m)) n
+  rest-room at n fits h e = e ∙ ap (λ (k : ℕ). leb k n) (omega (arith, ap length (signed-more minus m h (fits .fits))))
+
 pub set-kept : (after buf : List ℕ) (i x : ℕ) → length after ≡ length (set buf i x) → length after ≡ length buf
 set-kept after buf i x e = e ∙ length-set buf i x
 
-pub ruleset putting = (first-within, only-byte, rest-room, rest-put, small-fits, large-fits, set-kept, needs)
+pub set-room : (ns buf : List ℕ) (at i x : ℕ) {t : Bool} → t ≡ leb (at + length ns) (length buf) → t ≡ true → at + length ns ≤ length (set buf i x)
+set-room ns buf at i x told h = rw length-set (room-there at ns buf told h)
 
--- the room, which does not hang on the sign
-pub same-room : (minus : Bool) (m at n : ℕ) {t : Bool} → t ≡ leb (at + length (signedBytes false m)) n → t ≡ leb (at + length (signedBytes minus m)) n
-same-room minus m at n e = e ∙ sym (ap (λ (k : ℕ). leb (at + k) n) (sign-length minus m))
-
-pub ruleset signed-room = (past, ten, counted, signed-ten, same-room, room-there, full, wrote-all, needs)
+pub ruleset putting = (signed-some, at-end, only-byte, single, small-fits, large-fits, rest-room, set-room, rest-put, full, wrote-all, set-kept, needs)

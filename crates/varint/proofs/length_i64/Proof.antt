@@ -8,5 +8,7 @@ length-i64-spec =
     tie.close
     (tie.spec
     (λ c κs. search sizes)
+    (λ c. search sizes)
     (λ c κs. search sizes)
+    (λ c. search sizes)
     (λ c. search sizes))

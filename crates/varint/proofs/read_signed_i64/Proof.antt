@@ -9,7 +9,7 @@ read-signed-i64-spec =
     (tie.spec
     (λ c κs. search signed-answer)
     (λ c. search signed-answer)
-    (λ c κs. search signed-answer)
+    (λ c. search signed-answer)
     (λ c κs. search signed-answer)
     (λ c. search signed-answer)
     (λ c. search signed-answer)
