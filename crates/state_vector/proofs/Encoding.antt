@@ -15,10 +15,10 @@ use Rattle.varint.specs.declared.Wrote.the-variants as answer
 use Rattle.varint.proofs.Chaining.{Put, put, unput, put-writes, put-length, put-both}
 use Rattle.varint.proofs.Writing.{bytes-most}
 use Rattle.state_vector.specs.Rows.{Row, row}
-use Rattle.state_vector.specs.Vectors.{two, held, rowsOf, Table}
-use Rattle.state_vector.specs.Bytes.{rowBytes, encoded, Words}
+use Rattle.state_vector.specs.Vectors.{Slices, two, Held, held, rowsOf, rows, Table}
+use Rattle.state_vector.specs.Bytes.{rowBytes, encoded, Typed}
 use Rattle.state_vector.specs.Inner.{rowAt, span, Puts}
-use Rattle.state_vector.proofs.Spanning.{length-span, span-cons, span-none, table-span}
+use Rattle.state_vector.proofs.Spanning.{length-span, span-cons, span-none, table-span, length-rows}
 
 -- ## How many
 
@@ -32,25 +32,33 @@ row-length : (r : Row) (t : List Row) → length (rowBytes (r ∷ t)) ≡ length
 unfolding rowBytes
 row-length r t = simp length-append (omega arith)
 
+-- rows of u64 and u32
+unfoldable pub Words : List Row → Type 0
+Words [] = Unit {0}
+Words (r ∷ rs) = (r .client < 2 ^ 64) × (r .clock < 2 ^ 32) × Words rs
+
+-- the rows in lent slices are such
+pub words : {o : Slices} → Typed o → (n : ℕ) → Words (rowsOf n (o .clients) (o .clocks))
+unfolding Words
+words {o} t n = go n (o .clients) (o .clocks) (λ j. t .clients j .fits) (λ j. t .clocks j .fits)
+  where
+    go : (n : ℕ) (cs ks : List ℕ) → ((j : ℕ) → getD cs j 0 < 2 ^ 64) → ((j : ℕ) → getD ks j 0 < 2 ^ 32) → Words (rowsOf n cs ks)
+    go zero cs ks a b = tt
+    go (suc n) [] ks a b = tt
+    go (suc n) (c ∷ cs) [] a b = tt
+    go (suc n) (c ∷ cs) (k ∷ ks) a b = (a 0, b 0, go n cs ks (λ j. a (suc j)) (λ j. b (suc j)))
+
 rows-most : (t : List Row) → Words t → length (rowBytes t) ≤ 15 * length t
 unfolding rowBytes Words
 rows-most [] w = omega arith
 rows-most (r ∷ t) w = omega (arith, row-length r t, client-bytes (r .client) (w .0), clock-bytes (r .clock) (w .1), rows-most t (w .2))
 
 -- A VECTOR HAS AT MOST 3,842 BYTES
-pub encoded-most : (t : List Row) → Words t → length t ≤ vectorLimit → length (encoded t) ≤ 3842
+pub encoded-most : {a : Held} → Table a → Typed (a .slices) → length (encoded (rows a)) ≤ 3842
 unfolding encoded
-encoded-most t w h = simp length-append (omega (arith, bytes-most 1 (length t) (omega arith), rows-most t w))
-
-pub span-words : (f : ℕ → Row) (i k : ℕ) → ((j : ℕ) → f j .client < 2 ^ 64) → ((j : ℕ) → f j .clock < 2 ^ 32) → Words (span f i k)
-unfolding span Words
-span-words f i zero a b = tt
-span-words f i (suc k) a b = (a i, b i, span-words f (suc i) k a b)
-
-pub table-most : {cs ks : List ℕ} {n : ℕ} → Table (held cs ks n) → ((j : ℕ) → getD cs j 0 < 2 ^ 64) → ((j : ℕ) → getD ks j 0 < 2 ^ 32) → length (encoded (rowsOf n cs ks)) ≤ 3842
-table-most {cs} {ks} {n} t a b =
-    subst (λ (l : List Row). length (encoded l) ≤ 3842) (sym (table-span t))
-    (encoded-most (span (rowAt (two cs ks)) 0 n) (span-words (rowAt (two cs ks)) 0 n a b) (omega (arith, length-span (rowAt (two cs ks)) 0 n, t .few)))
+encoded-most {a} t w =
+    let n : length (rows a) ≤ vectorLimit = omega (arith, t .few, length-rows t) in
+    simp length-append (omega (arith, bytes-most 1 (length (rows a)) (omega arith), rows-most (rows a) (words w (a .count))))
 
 -- ## Counted
 
@@ -154,7 +162,7 @@ module _ {cs ks : List ℕ} {n place : ℕ} {buf₀ buf : List ℕ} {i next : �
 module _ {cs ks : List ℕ} {n : ℕ} (place : ℕ) (buf : List ℕ) (t : Table (held cs ks n)) (room : place + length (encoded (rowsOf n cs ks)) ≤ length buf) where
   count-and-rows : bytesOf n ++ rowBytes (rowsOf n cs ks) ≡ encoded (rowsOf n cs ks)
   unfolding encoded
-  count-and-rows = ap (λ (k : ℕ). bytesOf k ++ rowBytes (rowsOf n cs ks)) (sym (ap length (table-span t) ∙ length-span (rowAt (two cs ks)) 0 n))
+  count-and-rows = ap (λ (k : ℕ). bytesOf k ++ rowBytes (rowsOf n cs ks)) (sym (length-rows t))
 
   pub count-fits : place + length (bytesOf n) ≤ length buf
   count-fits = omega (arith, simp length-append at (ap length count-and-rows))

@@ -13,9 +13,9 @@ use Rattle.state_vector.specs.Vectors.{Slices, two, held, rowsOf, room, 
 use Rattle.varint.specs.declared.Refusal.the-variants.{Full}
 use Rattle.tables.specs.Answers.{full}
 use Rattle.tables.specs.declared.Made.the-variants as made
-use Rattle.state_vector.specs.Inner.{Finds, Stands, Copies, rowAt, span, put, Holds, Opens}
+use Rattle.state_vector.specs.Inner.{Finds, Stands, Firsts, element, rowAt, span, put, Holds, Opens}
 use Rattle.state_vector.proofs.Looking.{look, look-here, look-past, same-or-not, at-look, length-put-new, length-put-old, set-right}
-use Rattle.state_vector.proofs.Spanning.{length-span, rows-span, span-same, look-none, look-found, put-found, put-new, table-span, table-rising, table-climbs}
+use Rattle.state_vector.proofs.Spanning.{rows-span, span-same, look-none, look-found, put-found, put-new, table-span, length-rows, table-rising, table-climbs}
 use Rattle.state_vector.proofs.Loops.{climbs-less}
 use Rattle.state_vector.proofs.Storing.{row-of}
 use Rattle.varint.proofs.Writing.{lt-or-ge}
@@ -63,14 +63,11 @@ module _ {cs ks : List ℕ} {n c i : ℕ} (t : Table (held cs ks n)) (f : Finds 
   pub smaller-absent : (k : ℕ) → (Stands cs n i c → ⊥) → k ≡ smaller (rowsOf n cs ks) c k
   smaller-absent k h = sym (smaller-none (rowsOf n cs ks) c k (lacks h))
 
-  length-rows : length (rowsOf n cs ks) ≡ n
-  length-rows = ap length (table-span t) ∙ length-span (rowAt (two cs ks)) 0 n
-
   -- ## A row put there
 
   pub put-over : (most k : ℕ) → most ≤ room (two cs ks) → Stands cs n i c → Holds most (two cs (set ks i k)) n (put (row c k) (rowsOf n cs ks))
   put-over most k m s = record {
-    many = length-put-old (row c k) (rowsOf n cs ks) (t .rising) (omega (arith, has s)) ∙ length-rows;
+    many = length-put-old (row c k) (rowsOf n cs ks) (t .rising) (omega (arith, has s)) ∙ length-rows t;
     stand = λ l. sym (ap (put (row c k)) (table-span t)
         ∙ put-found (rowAt (two cs ks)) (rowAt (two cs (set ks i k))) (row c k) i n (f .below)
         (λ j b. row-of refl (getD-set-other ks i j k 0 (λ q. omega arith))) (row-of (s .own) (getD-set-same ks i k 0 (omega (arith, t .few, s .within)))) (s .within) (s .own)
@@ -79,14 +76,14 @@ module _ {cs ks : List ℕ} {n c i : ℕ} (t : Table (held cs ks n)) (f : Finds 
 
   pub put-counted : (most k : ℕ) (o : Slices) → (Stands cs n i c → ⊥) → most ≤ n → Holds most o (n + 1) (put (row c k) (rowsOf n cs ks))
   put-counted most k o h m = record {
-    many = length-put-new (row c k) (rowsOf n cs ks) (t .rising) (lacks h) ∙ omega (arith, length-rows);
+    many = length-put-new (row c k) (rowsOf n cs ks) (t .rising) (lacks h) ∙ omega (arith, length-rows t);
     stand = λ l. absurd (let z : ⊥ = omega arith in z);
   }
 
   pub put-opened : (most k : ℕ) (cs′ ks′ : List ℕ) → length cs′ ≡ length cs → length ks′ ≡ length ks → most ≤ room (two cs ks) → n < most → (Stands cs n i c → ⊥)
       → Opens i n cs cs′ → Opens i n ks ks′ → Holds most (two (set cs′ i c) (set ks′ i k)) (n + 1) (put (row c k) (rowsOf n cs ks))
   put-opened most k cs′ ks′ p q m l h a b = record {
-    many = length-put-new (row c k) (rowsOf n cs ks) (t .rising) (lacks h) ∙ omega (arith, length-rows);
+    many = length-put-new (row c k) (rowsOf n cs ks) (t .rising) (lacks h) ∙ omega (arith, length-rows t);
     stand = λ _. sym (ap (put (row c k)) (table-span t)
         ∙ put-new (rowAt (two cs ks)) (rowAt (two (set cs′ i c) (set ks′ i k))) (row c k) i n (f .below)
         (λ j u. row-of (getD-set-other cs′ i j c 0 (λ z. omega arith) ∙ a .kept j u) (getD-set-other ks′ i j k 0 (λ z. omega arith) ∙ b .kept j u))
@@ -107,11 +104,11 @@ module _ {cs ks : List ℕ} {n : ℕ} (t : Table (held cs ks n)) where
   pub set-over : (o out : Slices) (c k m : ℕ) → m ≡ most o → m < n → out ≡ filled [] o → Writes (Table (held cs ks n)) (Set (rowsOf n cs ks) c k) o out (made.Refused Full)
   set-over o out c k m e h f =
       full (put (row c k) (rowsOf n cs ks)) t (set-right (rowsOf n cs ks) c k (t .rising))
-      (omega (arith, length-put-le (row c k) (rowsOf n cs ks) (t .rising), ap length (table-span t), length-span (rowAt (two cs ks)) 0 n)) refl f
+      (omega (arith, length-put-le (row c k) (rowsOf n cs ks) (t .rising), length-rows t)) refl f
 
-  module _ {cs′ ks′ : List ℕ} (a : Copies n cs cs′) (b : Copies n ks ks′) (p : n ≤ length cs′) (q : n ≤ length ks′) where
+  module _ {cs′ ks′ : List ℕ} (a : Firsts n (element cs) cs′) (b : Firsts n (element ks) ks′) (p : n ≤ length cs′) (q : n ≤ length ks′) where
     pub copied-rows : rowsOf n cs′ ks′ ≡ rowsOf n cs ks
-    copied-rows = rows-span n cs′ ks′ p q ∙ span-same (rowAt (two cs′ ks′)) (rowAt (two cs ks)) 0 n (λ j _ h. row-of (a .same j (omega arith)) (b .same j (omega arith))) ∙ sym (table-span t)
+    copied-rows = rows-span n cs′ ks′ p q ∙ span-same (rowAt (two cs′ ks′)) (rowAt (two cs ks)) 0 n (λ j _ h. row-of (a .are j (omega arith)) (b .are j (omega arith))) ∙ sym (table-span t)
 
     pub copied-table : Table (held cs′ ks′ n)
     copied-table = record { few = omega (arith, t .few); rising = subst Rising (sym copied-rows) (t .rising) }

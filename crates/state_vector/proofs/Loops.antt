@@ -1,16 +1,16 @@
 -- What the small loops know, and one law for each way out and each turn. Assumes nothing.
 use mathlib.Core.Path.{_≡_, refl, ap, sym, subst, subst₂, _∙_}
 use mathlib.Core.Logic.{⊎-elim}
-use mathlib.Core.Bool.{Bool, true, false, _&&_, _||_, true≢false, false≢true}
+use mathlib.Core.Bool.{Bool, true, false, cond, _&&_, _||_, true≢false, false≢true}
 use mathlib.Core.List.{List}
-use Prim.Native.Nat.{ℕ, zero, suc, _+_, _-_, _≤_, _<_}
+use Prim.Native.Nat.{ℕ, zero, suc, _+_, _-_, _≤_, _<_, min}
 use native.Mathlib.Omega.{arith}
-use lib.Dec.{ltb}
+use lib.Dec.{eqb, ltb}
 use lib.ListN.{length, getD, set}
 use lib.Seq.{getD-set-same, getD-set-other}
-use borrow.Author.Tests.{ltb-true, ltb-false, lt-ltb}
+use borrow.Author.Tests.{ltb-true, ltb-false, le-ltb, eqb-true, eqb-false, eq-eqb, ne-eqb}
 use Rattle.tables.specs.Answers.{Says}
-use Rattle.state_vector.specs.Inner.{Climbs, Finds, Copies, Opens, Nulls}
+use Rattle.state_vector.specs.Inner.{Climbs, Finds, Firsts, Opens, Nulls, anyLess, Unders}
 use Rattle.state_vector.proofs.Looking.{same-or-not}
 
 -- ## Clients that rise
@@ -89,18 +89,22 @@ finds-none e = record { within = omega arith; below = λ j h. absurd (omega arit
 
 -- ## Copies and moves
 
-pub copies-none : (s d : List ℕ) → Copies 0 s d
-copies-none s d = record { same = λ j h. absurd (omega arith) }
+pub firsts-none : (f : ℕ → ℕ) (d : List ℕ) → Firsts 0 f d
+firsts-none f d = record { are = λ j h. absurd (omega arith) }
 
-pub copies-more : {s d : List ℕ} {i : ℕ} → Copies i s d → i < length d → Copies (i + 1) s (set d i (getD s i 0))
-copies-more {s} {d} {i} c h = record {
-  same = λ j l. ⊎-elim
-      (λ (e : j ≡ i). subst (λ (k : ℕ). getD (set d i (getD s i 0)) k 0 ≡ getD s k 0) (sym e) (getD-set-same d i (getD s i 0) 0 h))
-      (λ n. getD-set-other d i j (getD s i 0) 0 n ∙ c .same j (omega arith)) (same-or-not j i);
+-- one more
+pub firsts-more : {f : ℕ → ℕ} {d : List ℕ} {i : ℕ} → Firsts i f d → getD d i 0 ≡ f i → Firsts (i + 1) f d
+firsts-more {f} {d} {i} c e = record {
+  are = λ j l. ⊎-elim (λ (q : j ≡ i). subst (λ (k : ℕ). getD d k 0 ≡ f k) (sym q) e) (λ n. c .are j (omega arith)) (same-or-not j i);
 }
 
-pub copies-all : {s d : List ℕ} {i n : ℕ} → Copies i s d → n ≤ i → Copies n s d
-copies-all c h = record { same = λ j l. c .same j (omega arith) }
+-- one more, stored
+pub firsts-store : {f : ℕ → ℕ} {d : List ℕ} {i : ℕ} {v : ℕ} → Firsts i f d → i < length d → v ≡ f i → Firsts (i + 1) f (set d i v)
+firsts-store {f} {d} {i} {v} c h e =
+    firsts-more (record { are = λ j l. getD-set-other d i j v 0 (λ q. omega arith) ∙ c .are j l }) (getD-set-same d i v 0 h ∙ e)
+
+pub firsts-all : {f : ℕ → ℕ} {d : List ℕ} {i n : ℕ} → Firsts i f d → n ≤ i → Firsts n f d
+firsts-all c h = record { are = λ j l. c .are j (omega arith) }
 
 pub record Opening (i n : ℕ) (s out : List ℕ) (j : ℕ) : Type 0 where
   pub low : i ≤ j
@@ -143,6 +147,35 @@ nulls-more {ks} {m} {i} false c h = go (ltb 0 (getD ks i 0)) refl
 
 pub nulls-all : {ks : List ℕ} {m n i : ℕ} {found : Bool} → Nulls ks m i found → i ≤ n → n ≤ i → Nulls ks m n found
 nulls-all {ks} {m} {n} {i} {found} c a b = subst (λ (k : ℕ). Nulls ks m k found) (let e : i ≡ n = omega arith in e) c
+
+-- ## Clocks less on the left
+
+pub less-none : (ks ls : List ℕ) → false ≡ anyLess ks ls 0
+unfolding anyLess
+less-none ks ls = refl
+
+pub less-more : (ks ls : List ℕ) (i : ℕ) {found : Bool} → found ≡ anyLess ks ls i → (found || ltb (getD ks i 0) (getD ls i 0)) ≡ anyLess ks ls (i + 1)
+unfolding anyLess
+less-more ks ls i e = ap (λ (b : Bool). b || ltb (getD ks i 0) (getD ls i 0)) e ∙ ap (anyLess ks ls) (let z : suc i ≡ i + 1 = omega arith in z)
+
+pub less-all : (ks ls : List ℕ) {i n : ℕ} {found : Bool} → found ≡ anyLess ks ls i → i ≤ n → n ≤ i → found ≡ anyLess ks ls n
+less-all ks ls {i} {n} e a b = e ∙ ap (anyLess ks ls) (let z : i ≡ n = omega arith in z)
+
+pub unders : (p u q v : ℕ) → Unders p u q v ((ltb q p && ltb 0 v) || (eqb p q && ltb u v))
+unders p u q v = record { is = λ x e. go x e (ltb q p) (eqb p q) refl refl }
+  where
+    or-false : (b : Bool) → (b || false) ≡ b
+    or-false true = refl
+    or-false false = refl
+
+    go : (x : ℕ) → x ≡ min p q → (s t : Bool) → ltb q p ≡ s → eqb p q ≡ t → ((s && ltb 0 v) || (t && ltb u v)) ≡ ltb (cond (eqb p x) u 0) (cond (eqb q x) v 0)
+    go x e true true a b = absurd (let z = ltb-true q p a in let w = eqb-true p q b in omega arith)
+    go x e true false a b = let z = ltb-true q p a in rw (ne-eqb p x (λ y. omega arith), eq-eqb q x (omega arith)) (or-false (ltb 0 v))
+    go x e false true a b = let w = eqb-true p q b in rw (eq-eqb p x (omega arith), eq-eqb q x (omega arith)) refl
+    go x e false false a b =
+        let z = ltb-false q p a in
+        let w : (p ≡ q → ⊥) = eqb-false p q b in
+        rw (eq-eqb p x (omega arith), ne-eqb q x (λ y. omega arith)) (sym (le-ltb u 0 (omega arith)))
 
 pub climbs-less : {cs : List ℕ} {n : ℕ} → Climbs cs n → (i j : ℕ) → i < j → j < n → getD cs i 0 < getD cs j 0
 climbs-less c i j h l = omega (arith, c .up i (omega arith), climbs-at c (suc i) j (omega arith) l)

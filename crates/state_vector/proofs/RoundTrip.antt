@@ -13,11 +13,55 @@ use Rattle.varint.proofs.Chaining.{Put, put, put-read}
 use Rattle.varint.proofs.RoundTrip.{read-written}
 use Rattle.state_vector.specs.Rows.{Row, row, In, at, First, Rising, VectorOf}
 use Rattle.state_vector.specs.Vectors.{Slices, Held, rows, most, Table, filled}
-use Rattle.state_vector.specs.Bytes.{rowBytes, encoded, Words, stored, Pairs, read, stop, pairsAt, vectorAt, Encodes, writes, malformed, Decoding, decoding, Decodes, done, refused}
+use Rattle.state_vector.specs.Bytes.{rowBytes, encoded, Typed, stored, Pairs, read, stop, pairsAt, vectorAt, Encodes, writes, malformed, Decoding, decoding, Decodes, done, refused}
 use Rattle.state_vector.proofs.Looking.{look, look-past, vector-one}
+use Rattle.state_vector.proofs.Encoding.{Words, words}
+use Rattle.state_vector.proofs.Spanning.{length-rows}
 use Rattle.state_vector.proofs.Decoding.{Same, same-vector, stored-ways}
 
--- ## Pairs of rising rows are stored one behind the other
+-- ## Pairs, read as they stand one behind the other
+
+-- the rows of pairs stored one after the other
+unfoldable pub stores : List Row → List Row → List Row
+stores got [] = got
+stores got (r ∷ ts) = stores (stored got r) ts
+
+-- there is room for each
+abbrev pub Fitting : ℕ → List Row → List Row → Type 0
+Fitting m got [] = Unit {0}
+Fitting m got (r ∷ ts) = (length (stored got r) ≤ m) × Fitting m (stored got r) ts
+
+next-place : (bytes xs ys : List ℕ) (p : ℕ) → drop p bytes ≡ xs ++ ys → drop (p + length xs) bytes ≡ ys
+next-place bytes xs ys p e = sym (drop-drop (length xs) p bytes) ∙ ap (drop (length xs)) e ∙ drop-append-seam xs ys
+
+module _ (m : ℕ) (bytes rest : List ℕ) where
+  pairs-read : (ts got : List Row) (p : ℕ) → Words ts → Fitting m got ts → drop p bytes ≡ rowBytes ts ++ rest
+      → pairsAt m bytes (length ts) got p ≡ read (stores got ts) (p + length (rowBytes ts))
+  unfolding andThen pairsAt rowBytes Words stores
+  pairs-read [] got p w l e = ap (read got) (let z : p ≡ p + 0 = omega arith in z)
+  pairs-read (r ∷ ts) got p w l e =
+      let c = bytesOf (r .client) in
+      let k = bytesOf (r .clock) in
+      let e₁ : drop p bytes ≡ c ++ (k ++ (rowBytes ts ++ rest)) = e ∙ append-assoc (c ++ k) (rowBytes ts) rest ∙ append-assoc c k (rowBytes ts ++ rest) in
+      let e₂ = next-place bytes c (k ++ (rowBytes ts ++ rest)) p e₁ in
+      let e₃ = next-place bytes k (rowBytes ts ++ rest) (p + length c) e₂ in
+      let x₁ : readAt 64 bytes p ≡ number.done (r .client) (p + length c) = read-written 64 (r .client) p bytes (k ++ (rowBytes ts ++ rest)) (omega arith) (omega arith) (w .0) e₁ in
+      let x₂ : readAt 32 bytes (p + length c) ≡ number.done (r .clock) (p + length c + length k) =
+      read-written 32 (r .clock) (p + length c) bytes (rowBytes ts ++ rest) (omega arith) (omega arith) (w .1) e₂ in
+      rw (x₁, x₂, le-leb (length (stored got r)) m (l .0))
+      (pairs-read ts (stored got r) (p + length c + length k) (w .2) (l .1) e₃ ∙ ap (read (stores (stored got r) ts)) (simp length-append (omega arith)))
+
+  -- any pairs, rising or not, in the bytes that they would be written in
+  pub vector-read : (t : List Row) (p : ℕ) → Words t → Fitting m [] t → length t < 2 ^ 32 → drop p bytes ≡ encoded t ++ rest
+      → vectorAt m bytes p ≡ read (stores [] t) (p + length (encoded t))
+  unfolding andThen vectorAt encoded
+  vector-read t p w l h e =
+      let n = bytesOf (length t) in
+      let e₁ : drop p bytes ≡ n ++ (rowBytes t ++ rest) = e ∙ append-assoc n (rowBytes t) rest in
+      let x : readAt 32 bytes p ≡ number.done (length t) (p + length n) = read-written 32 (length t) p bytes (rowBytes t ++ rest) (omega arith) (omega arith) h e₁ in
+      rw x (pairs-read t [] (p + length n) w l (next-place bytes n (rowBytes t ++ rest) p e₁) ∙ ap (read (stores [] t)) (simp length-append (omega arith)))
+
+-- ## Rising rows are stored one behind the other
 
 less-behind : (s : Row) (t : List Row) (r : Row) (ts : List Row) → Rising (s ∷ (t ++ (r ∷ ts))) → s .client < r .client
 less-behind s [] r ts g = g .0
@@ -29,44 +73,27 @@ stored-behind [] r ts g = refl
 stored-behind (s ∷ t) r ts g =
     stored-ways r s t (λ l. l ≡ (s ∷ t) ++ (r ∷ [])) (λ e. absurd (let z : ⊥ = omega (arith, less-behind s t r ts g) in z)) (λ n. ap (λ (l : List Row). s ∷ l) (stored-behind t r ts (g .1)))
 
-next-place : (bytes xs ys : List ℕ) (p : ℕ) → drop p bytes ≡ xs ++ ys → drop (p + length xs) bytes ≡ ys
-next-place bytes xs ys p e = sym (drop-drop (length xs) p bytes) ∙ ap (drop (length xs)) e ∙ drop-append-seam xs ys
+rising-stores : (m : ℕ) (ts got : List Row) → Rising (got ++ ts) → length (got ++ ts) ≤ m → Fitting m got ts × (stores got ts ≡ got ++ ts)
+unfolding stores
+rising-stores m [] got g l = (tt, sym (append-nil got))
+rising-stores m (r ∷ ts) got g l =
+    let s : stored got r ≡ got ++ (r ∷ []) = stored-behind got r ts g in
+    let a : stored got r ++ ts ≡ got ++ (r ∷ ts) = ap (λ (x : List Row). x ++ ts) s ∙ append-assoc got (r ∷ []) ts in
+    let f : length (stored got r) ≤ m = omega (arith, ap length s, length-append got (r ∷ []), length-append got (r ∷ ts)) in
+    let i = rising-stores m ts (stored got r) (subst Rising (sym a) g) (subst (λ (x : List Row). length x ≤ m) (sym a) l) in
+    ((f, i .0), i .1 ∙ a)
 
-module _ (m : ℕ) (bytes rest : List ℕ) where
-  pairs-back : (ts got : List Row) (p : ℕ) → Words ts → Rising (got ++ ts) → length (got ++ ts) ≤ m → drop p bytes ≡ rowBytes ts ++ rest
-      → pairsAt m bytes (length ts) got p ≡ read (got ++ ts) (p + length (rowBytes ts))
-  unfolding andThen pairsAt rowBytes Words
-  pairs-back [] got p w g l e = ap₂ read (sym (append-nil got)) (let z : p ≡ p + 0 = omega arith in z)
-  pairs-back (r ∷ ts) got p w g l e =
-      let c = bytesOf (r .client) in
-      let k = bytesOf (r .clock) in
-      let e₁ : drop p bytes ≡ c ++ (k ++ (rowBytes ts ++ rest)) = e ∙ append-assoc (c ++ k) (rowBytes ts) rest ∙ append-assoc c k (rowBytes ts ++ rest) in
-      let e₂ = next-place bytes c (k ++ (rowBytes ts ++ rest)) p e₁ in
-      let e₃ = next-place bytes k (rowBytes ts ++ rest) (p + length c) e₂ in
-      let s : stored got r ≡ got ++ (r ∷ []) = stored-behind got r ts g in
-      let a : (got ++ (r ∷ [])) ++ ts ≡ got ++ (r ∷ ts) = append-assoc got (r ∷ []) ts in
-      let f : length (stored got r) ≤ m = subst (λ (x : List Row). length x ≤ m) (sym s) (omega (arith, simp length-append at l, length-append got (r ∷ []))) in
-      let x₁ : readAt 64 bytes p ≡ number.done (r .client) (p + length c) = read-written 64 (r .client) p bytes (k ++ (rowBytes ts ++ rest)) (omega arith) (omega arith) (w .0) e₁ in
-      let x₂ : readAt 32 bytes (p + length c) ≡ number.done (r .clock) (p + length c + length k) =
-      read-written 32 (r .clock) (p + length c) bytes (rowBytes ts ++ rest) (omega arith) (omega arith) (w .1) e₂ in
-      rw (x₁, x₂, le-leb (length (stored got r)) m f)
-      (ap (λ (x : List Row). pairsAt m bytes (length ts) x (p + length c + length k)) s
-      ∙ pairs-back ts (got ++ (r ∷ [])) (p + length c + length k) (w .2) (subst Rising (sym a) g) (subst (λ (x : List Row). length x ≤ m) (sym a) l) e₃
-      ∙ ap₂ read a (simp length-append (omega arith)))
-
-  pub vector-back : (t : List Row) (p : ℕ) → Words t → Rising t → length t ≤ m → length t < 2 ^ 32 → drop p bytes ≡ encoded t ++ rest → vectorAt m bytes p ≡ read t (p + length (encoded t))
-  unfolding andThen vectorAt encoded
-  vector-back t p w g l h e =
-      let n = bytesOf (length t) in
-      let e₁ : drop p bytes ≡ n ++ (rowBytes t ++ rest) = e ∙ append-assoc n (rowBytes t) rest in
-      let x : readAt 32 bytes p ≡ number.done (length t) (p + length n) = read-written 32 (length t) p bytes (rowBytes t ++ rest) (omega arith) (omega arith) h e₁ in
-      rw x (pairs-back t [] (p + length n) w g l (next-place bytes n (rowBytes t ++ rest) p e₁) ∙ ap (read t) (simp length-append (omega arith)))
+vector-back : (m : ℕ) (bytes rest : List ℕ) (t : List Row) (p : ℕ) → Words t → Rising t → length t ≤ m → length t < 2 ^ 32 → drop p bytes ≡ encoded t ++ rest
+    → vectorAt m bytes p ≡ read t (p + length (encoded t))
+vector-back m bytes rest t p w g l h e =
+    let s = rising-stores m t [] g l in
+    vector-read m bytes rest t p w (s .0) h e ∙ ap (λ (x : List Row). read x (p + length (encoded t))) (s .1)
 
 pub own-vector : (t : List Row) → Rising t → VectorOf (In t) (at t) t
 own-vector t g = same-vector (record { rising = g; looks = λ c. refl; many = refl })
 
 -- DECODING WHAT WAS ENCODED, WITH ROOM FOR IT, GIVES THE SAME ROWS, AND THE PLACE PAST THEM
-pub round-trip : (a : Held) (buf after : List ℕ) (place p : ℕ) (o out : Slices) (d : Decoding) → Words (rows a) → length (rows a) ≤ most o
+pub round-trip : (a : Held) (buf after : List ℕ) (place p : ℕ) (o out : Slices) (d : Decoding) → Typed (a .slices) → length (rows a) ≤ most o
     → Encodes a buf place (record { no = 0; place = p; buffer = after }) → Decodes after place o out d → (d ≡ decoding 0 (length (rows a)) p) × (out ≡ filled (rows a) o)
 round-trip a buf after place p o out d w l (malformed n e) x = absurd (let z = ap (λ (v : Written). v .no) e in omega arith)
 round-trip a buf after place p o out d w l (writes t e) x = go x
@@ -74,7 +101,7 @@ round-trip a buf after place p o out d w l (writes t e) x = go x
     back : vectorAt (most o) after place ≡ read (rows a) p
     back =
         let g : Put (encoded (rows a)) buf place after p = put e in
-        vector-back (most o) after _ (rows a) place w (t .rising) l (omega arith) (put-read g) ∙ ap (read (rows a)) (sym (g .place))
+        vector-back (most o) after _ (rows a) place (words w (a .count)) (t .rising) l (omega arith) (put-read g) ∙ ap (read (rows a)) (sym (g .place))
 
     go : Decodes after place o out d → (d ≡ decoding 0 (length (rows a)) p) × (out ≡ filled (rows a) o)
     go (done got u q f v i j) =
@@ -85,9 +112,12 @@ round-trip a buf after place p o out d w l (writes t e) x = go x
     go (refused n f i j) = absurd (let z : _≡_ {A = ℕ} 0 1 = cc back in omega arith)
 
 -- TWO VECTORS NEVER HAVE THE SAME BYTES
-pub encoded-one : (t u : List Row) → Rising t → Rising u → Words t → Words u → length t < 2 ^ 32 → length u < 2 ^ 32 → encoded t ≡ encoded u → t ≡ u
-encoded-one t u g h w v l k e =
-    let m = length t + length u in
-    let a = vector-back m (encoded t) [] t 0 w g (omega arith) l (sym (append-nil (encoded t))) in
-    let b = vector-back m (encoded t) [] u 0 v h (omega arith) k (e ∙ sym (append-nil (encoded u))) in
+pub encoded-one : {a b : Held} → Table a → Table b → Typed (a .slices) → Typed (b .slices) → encoded (rows a) ≡ encoded (rows b) → rows a ≡ rows b
+encoded-one {a} {b} t u w v e =
+    let m = length (rows a) + length (rows b) in
+    let x = vector-back m (encoded (rows a)) [] (rows a) 0 (words w (a .count)) (t .rising) (omega arith) (few t) (sym (append-nil (encoded (rows a)))) in
+    let y = vector-back m (encoded (rows a)) [] (rows b) 0 (words v (b .count)) (u .rising) (omega arith) (few u) (e ∙ sym (append-nil (encoded (rows b)))) in
     cc
+  where
+    few : {h : Held} → Table h → length (rows h) < 2 ^ 32
+    few {h} t = omega (arith, t .few, length-rows t)

@@ -155,6 +155,9 @@ module _ {cs : List ℕ} {n : ℕ} where
   pub table-span : {ks : List ℕ} → Table (held cs ks n) → rowsOf n cs ks ≡ span (rowAt (two cs ks)) 0 n
   table-span {ks} t = rows-span n cs ks (omega (arith, t .few)) (omega (arith, t .few))
 
+  pub length-rows : {ks : List ℕ} → Table (held cs ks n) → length (rowsOf n cs ks) ≡ n
+  length-rows {ks} t = ap length (table-span t) ∙ length-span (rowAt (two cs ks)) 0 n
+
   pub table-rising : {ks : List ℕ} → Table (held cs ks n) → Rising (span (rowAt (two cs ks)) 0 n)
   table-rising {ks} t = subst Rising (table-span t) (t .rising)
 

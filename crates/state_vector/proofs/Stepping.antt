@@ -7,13 +7,14 @@ use Prim.Native.Nat.{ℕ, zero, suc, _+_, _-_, _≤_, _<_, min, max}
 use native.Mathlib.Omega.{arith}
 use borrow.Author.Tests.{eqb-true, eqb-false, eq-eqb, ne-eqb, ltb-true, ltb-false, le-ltb}
 use lib.Dec.{eqb, ltb}
-use lib.ListN.{length, getD}
+use lib.ListN.{length, getD, set}
+use lib.Seq.{set-getD}
 use Rattle.state_vector.specs.Rows.{Row, row, at, First, Rising, Below, Merge, Compare}
 use Rattle.state_vector.specs.Vectors.{Slices, two, held, rowsOf, room, Table, saidOrder}
-use Rattle.state_vector.specs.Inner.{rowAt, span, Holds, Stores, Passes, Rests, Unites, Nulls, judged, Judges}
+use Rattle.state_vector.specs.Inner.{rowAt, span, Holds, Firsts, element, Stores, Passes, Rests, Fronts, Unites, Nulls, anyLess, Unders, judged, Judges}
 use Rattle.state_vector.proofs.Looking.{look, look-here, look-past, same-or-not, at-look, over, look-append, between, merge-right}
 use Rattle.state_vector.proofs.Spanning.{span-cons, span-none, look-none, table-span, table-rising}
-use Rattle.state_vector.proofs.Storing.{holds-none, holds-store}
+use Rattle.state_vector.proofs.Storing.{two-of, holds-none, holds-store}
 
 -- client x, with its clock and one more, or 0 where it is absent, is taken off the front of rising rows
 pub record Off (x w : ℕ) (xs xs′ : List Row) : Type 0 where
@@ -82,12 +83,27 @@ moves {n} {i} {p} {x} {i′} s h = go (eqb p x) refl (s .is)
     go true e q = (omega arith, omega arith, λ _. q)
     go false e q = (omega arith, omega arith, λ z. absurd (eqb-false p x e z))
 
+-- a row of client x itself
+same-side : (a : Slices) (n i : ℕ) {p x : ℕ} → p ≡ getD (a .clients) i 0 → p ≡ x → Side a n i p x (getD (a .clocks) i 0) (i + 1)
+same-side a n i {p} {x} e f = record { client = e; clock = rw (eq-eqb p x f) refl; next = record { is = rw (eq-eqb p x f) refl } }
+
 -- a step passes a row
 pub step-less : {n m i j p q x i′ j′ : ℕ} → i < n → j < m → x ≡ min p q → Passes i p x i′ → Passes j q x j′ → (n + m) - (i′ + j′) < (n + m) - (i + j)
 step-less {p = p} {q = q} {x = x} h l e u w =
     let ma = moves u h in
     let mb = moves w l in
     ⊎-elim (λ (d : p ≡ x). omega (arith, ma .1, mb .1, ma .2 d, mb .0)) (λ d. omega (arith, ma .0, ma .1, mb .1, mb .2 (omega arith))) (same-or-not p x)
+
+-- ## The rows in front
+
+pub front-within : {h s r n m most : ℕ} → h ≡ min s most → s ≤ r → r ≡ min n m → (h ≤ n) × (h ≤ m) × (h ≤ most) × (h ≤ s)
+front-within e l f = (omega arith, omega arith, omega arith, omega arith)
+
+pub table-within : {cs ks : List ℕ} {n h : ℕ} → Table (held cs ks n) → h ≤ n → (h ≤ length cs) × (h ≤ length ks)
+table-within t l = (omega (arith, t .few), omega (arith, t .few))
+
+pub room-within : (o : Slices) {most h : ℕ} → most ≤ room o → h ≤ most → (h ≤ length (o .clients)) × (h ≤ length (o .clocks))
+room-within o r l = (omega arith, omega arith)
 
 -- ## Merging
 
@@ -129,6 +145,9 @@ module _ {w : ℕ → ℕ} {t xs ys xs′ ys′ : List Row} {x y u v : ℕ} (p :
 
 -- the loop's invariant
 pub record Uniting (a : Slices) (n : ℕ) (b : Slices) (m most : ℕ) (o₀ o : Slices) (i j k : ℕ) : Type 0 where
+  pub ta : Table (held (a .clients) (a .clocks) n)
+  pub tb : Table (held (b .clients) (b .clocks) m)
+  pub fit : most ≤ room o₀
   pub li : i ≤ n
   pub lj : j ≤ m
   pub few : k ≤ i + j
@@ -139,18 +158,22 @@ pub record Uniting (a : Slices) (n : ℕ) (b : Slices) (m most : ℕ) (o₀ o : 
   pub holds : Holds most o k t
 
 module _ {a : Slices} {n : ℕ} {b : Slices} {m most : ℕ} {o₀ : Slices} where
-  pub uniting-none : (o₁ : Slices) → o₁ ≡ o₀ → Rising (span (rowAt a) 0 n) → Rising (span (rowAt b) 0 m) → Uniting a n b m most o₀ o₁ 0 0 0
+  uniting-none : {o : Slices} → Table (held (a .clients) (a .clocks) n) → Table (held (b .clients) (b .clocks) m) → most ≤ room o₀
+      → length (o .clients) ≡ length (o₀ .clients) → length (o .clocks) ≡ length (o₀ .clocks) → Uniting a n b m most o₀ o 0 0 0
   unfolding look
-  uniting-none o₁ e g h = record {
+  uniting-none {o} ta tb fit p q = record {
+    ta = ta;
+    tb = tb;
+    fit = fit;
     li = omega arith;
     lj = omega arith;
     few = omega arith;
-    clients = ap (λ (o : Slices). length (o .clients)) e;
-    clocks = ap (λ (o : Slices). length (o .clocks)) e;
+    clients = p;
+    clocks = q;
     t = [];
     part = subst₂ (λ (k l : ℕ). Part (λ c. max (look (span (rowAt a) 0 n) c) (look (span (rowAt b) 0 m) c)) [] (span (rowAt a) 0 k) (span (rowAt b) 0 l))
-        (let q : n ≡ n - 0 = omega arith in q) (let q : m ≡ m - 0 = omega arith in q) (record { left = g; right = h; means = λ c. omega arith });
-    holds = holds-none most o₁;
+        (let q : n ≡ n - 0 = omega arith in q) (let q : m ≡ m - 0 = omega arith in q) (record { left = table-rising ta; right = table-rising tb; means = λ c. omega arith });
+    holds = holds-none most o;
   }
 
   module _ {o : Slices} {i j k : ℕ} (s : Uniting a n b m most o₀ o i j k) where
@@ -160,12 +183,15 @@ module _ {a : Slices} {n : ℕ} {b : Slices} {m most : ℕ} {o₀ : Slices} wher
     pub rising-right : Rising (span (rowAt b) j (m - j))
     rising-right = rising-tail (s .t) _ (s .part .right)
 
-    pub uniting-more : {out : Slices} {p q x y z v i′ j′ : ℕ} → most ≤ room o₀ → i < n → j < m → x ≡ min p q → Side a n i p x y i′ → Side b m j q x z j′ → v ≡ max y z
+    pub uniting-more : {out : Slices} {p q x y z v i′ j′ : ℕ} → i < n → j < m → x ≡ min p q → Side a n i p x y i′ → Side b m j q x z j′ → v ≡ max y z
         → length (out .clients) ≡ length (o .clients) → length (out .clocks) ≡ length (o .clocks) → Stores most k (row x v) o out → Uniting a n b m most o₀ out i′ j′ (k + 1)
-    uniting-more {out} {p} {q} {x} {y} {z} {v} {i′} {j′} fit h l e u w f lc lk st =
+    uniting-more {out} {p} {q} {x} {y} {z} {v} {i′} {j′} h l e u w f lc lk st =
         let ma = moves (u .next) h in
         let mb = moves (w .next) l in
         record {
+          ta = s .ta;
+          tb = s .tb;
+          fit = s .fit;
           li = ma .1;
           lj = mb .1;
           few = ⊎-elim (λ (d : p ≡ x). omega (arith, s .few, ma .2 d, mb .0)) (λ d. omega (arith, s .few, ma .0, mb .2 (omega arith))) (same-or-not p x);
@@ -173,7 +199,7 @@ module _ {a : Slices} {n : ℕ} {b : Slices} {m most : ℕ} {o₀ : Slices} wher
           clocks = lk ∙ s .clocks;
           t = s .t ++ (row x v ∷ []);
           part = part-more (s .part) (side-off u h (omega arith) rising-left) (side-off w l (omega arith) rising-right) larger;
-          holds = holds-store (omega (arith, s .clients, s .clocks)) st (s .holds);
+          holds = holds-store (omega (arith, s .fit, s .clients, s .clocks)) st (s .holds);
         }
       where
         some : (t t′ : Bool) (c d : ℕ) → (t ≡ false → t′ ≡ false → ⊥) → suc (max (cond t c 0) (cond t′ d 0)) ≡ max (cond t (suc c) 0) (cond t′ (suc d) 0)
@@ -186,24 +212,35 @@ module _ {a : Slices} {n : ℕ} {b : Slices} {m most : ℕ} {o₀ : Slices} wher
         larger = ap suc (f ∙ ap₂ max (u .clock) (w .clock)) ∙ some (eqb p x) (eqb q x) (getD (a .clocks) i 0) (getD (b .clocks) j 0)
             (λ t t′. let c : (p ≡ x → ⊥) = eqb-false p x t in let d : (q ≡ x → ⊥) = eqb-false q x t′ in omega arith)
 
+  -- the first rows, where clients are the same on both sides
+  pub uniting-front : {o : Slices} {r : ℕ} → Table (held (a .clients) (a .clocks) n) → Table (held (b .clients) (b .clocks) m) → most ≤ room o₀
+      → length (o .clients) ≡ length (o₀ .clients) → length (o .clocks) ≡ length (o₀ .clocks) → Fronts a n b m most o r → (h : ℕ) → h ≤ r → Uniting a n b m most o₀ o h h h
+  uniting-front ta tb fit p q f zero l = uniting-none ta tb fit p q
+  uniting-front {o} ta tb fit p q f (suc h) l =
+      subst (λ (i : ℕ). Uniting a n b m most o₀ o i i i) (let z : h + 1 ≡ suc h = omega arith in z)
+      (uniting-more (uniting-front ta tb fit p q f h (omega arith)) (omega (arith, f .left)) (omega (arith, f .right)) (omega (arith, f .same .are h l))
+      (same-side a n h refl refl) (same-side b m h refl (f .same .are h l)) refl refl refl
+      (record { there = λ _. sym (two-of (ap (set (o .clients) h) (sym (f .clients .are h l)) ∙ set-getD (o .clients) h 0) (ap (set (o .clocks) h) (sym (f .clocks .are h l)) ∙ set-getD (o .clocks) h 0)) }))
+
+  module _ {o : Slices} {i j k : ℕ} (s : Uniting a n b m most o₀ o i j k) where
     -- nothing is left of the one vector: what is left of the other one stands behind
-    pub united-left : {out : Slices} {l : ℕ} → Table (held (a .clients) (a .clocks) n) → Table (held (b .clients) (b .clocks) m) → m ≤ j
+    pub united-left : {out : Slices} {l : ℕ} → m ≤ j
         → Rests most a i n o k out l → Unites (rowsOf n (a .clients) (a .clocks)) (rowsOf m (b .clients) (b .clocks)) most out l
     unfolding look
-    united-left ta tb h r = record {
+    united-left h r = record {
       t = s .t ++ span (rowAt a) i (n - i);
       right = merge-right (rowsOf n (a .clients) (a .clocks)) (rowsOf m (b .clients) (b .clocks)) (s .t ++ span (rowAt a) i (n - i)) (s .part .left) (λ c. look-append (s .t) (span (rowAt a) i (n - i)) c (s .part .left)
-          ∙ omega (arith, s .part .means c, ap (λ (l : List Row). look l c) (span-none (rowAt b) m j h), ap (λ (l : List Row). look l c) (table-span ta), ap (λ (l : List Row). look l c) (table-span tb)));
+          ∙ omega (arith, s .part .means c, ap (λ (l : List Row). look l c) (span-none (rowAt b) m j h), ap (λ (l : List Row). look l c) (table-span (s .ta)), ap (λ (l : List Row). look l c) (table-span (s .tb))));
       holds = r .behind (s .t) (s .holds);
     }
 
-    pub united-right : {out : Slices} {l : ℕ} → Table (held (a .clients) (a .clocks) n) → Table (held (b .clients) (b .clocks) m) → n ≤ i
+    pub united-right : {out : Slices} {l : ℕ} → n ≤ i
         → Rests most b j m o k out l → Unites (rowsOf n (a .clients) (a .clocks)) (rowsOf m (b .clients) (b .clocks)) most out l
     unfolding look
-    united-right ta tb h r = record {
+    united-right h r = record {
       t = s .t ++ span (rowAt b) j (m - j);
       right = merge-right (rowsOf n (a .clients) (a .clocks)) (rowsOf m (b .clients) (b .clocks)) (s .t ++ span (rowAt b) j (m - j)) (s .part .right) (λ c. look-append (s .t) (span (rowAt b) j (m - j)) c (s .part .right)
-          ∙ omega (arith, s .part .means c, ap (λ (l : List Row). look l c) (span-none (rowAt a) n i h), ap (λ (l : List Row). look l c) (table-span ta), ap (λ (l : List Row). look l c) (table-span tb)));
+          ∙ omega (arith, s .part .means c, ap (λ (l : List Row). look l c) (span-none (rowAt a) n i h), ap (λ (l : List Row). look l c) (table-span (s .ta)), ap (λ (l : List Row). look l c) (table-span (s .tb))));
       holds = r .behind (s .t) (s .holds);
     }
 
@@ -277,6 +314,8 @@ judge false false h l = record { done = refl; right = (h .from refl (λ c. omega
 
 -- the loop's invariant
 pub record Comparing (a : Slices) (n : ℕ) (b : Slices) (m i j : ℕ) (less greater : Bool) : Type 0 where
+  pub ta : Table (held (a .clients) (a .clocks) n)
+  pub tb : Table (held (b .clients) (b .clocks) m)
   pub li : i ≤ n
   pub lj : j ≤ m
   pub left : Rising (span (rowAt a) i (n - i))
@@ -285,11 +324,13 @@ pub record Comparing (a : Slices) (n : ℕ) (b : Slices) (m i j : ℕ) (less gre
   pub low : Half (rowsOf m (b .clients) (b .clocks)) (rowsOf n (a .clients) (a .clocks)) (span (rowAt b) j (m - j)) (span (rowAt a) i (n - i)) less
 
 module _ {a : Slices} {n : ℕ} {b : Slices} {m : ℕ} where
-  pub comparing-none : Table (held (a .clients) (a .clocks) n) → Table (held (b .clients) (b .clocks) m) → Comparing a n b m 0 0 false false
+  comparing-none : Table (held (a .clients) (a .clocks) n) → Table (held (b .clients) (b .clocks) m) → Comparing a n b m 0 0 false false
   comparing-none ta tb =
       let p : rowsOf n (a .clients) (a .clocks) ≡ span (rowAt a) 0 (n - 0) = table-span ta ∙ ap (span (rowAt a) 0) (let e : n ≡ n - 0 = omega arith in e) in
       let q : rowsOf m (b .clients) (b .clocks) ≡ span (rowAt b) 0 (m - 0) = table-span tb ∙ ap (span (rowAt b) 0) (let e : m ≡ m - 0 = omega arith in e) in
       record {
+        ta = ta;
+        tb = tb;
         li = omega arith;
         lj = omega arith;
         left = subst Rising p (ta .rising);
@@ -304,6 +345,8 @@ module _ {a : Slices} {n : ℕ} {b : Slices} {m : ℕ} where
         let f = side-off u h (omega arith) (s .left) in
         let g = side-off w l (omega arith) (s .right) in
         record {
+          ta = s .ta;
+          tb = s .tb;
           li = moves (u .next) h .1;
           lj = moves (w .next) l .1;
           left = f .rising;
@@ -312,6 +355,13 @@ module _ {a : Slices} {n : ℕ} {b : Slices} {m : ℕ} where
           low = half-more g f (side-clock w) (side-clock u) less (s .low);
         }
 
+    -- the same by the code's flags
+    pub comparing-next : {x i′ j′ : ℕ} {r r′ : Bool} → i < n → j < m → Unders (getD (a .clients) i 0) (getD (a .clocks) i 0) (getD (b .clients) j 0) (getD (b .clocks) j 0) r
+        → Unders (getD (b .clients) j 0) (getD (b .clocks) j 0) (getD (a .clients) i 0) (getD (a .clocks) i 0) r′ → x ≡ min (getD (a .clients) i 0) (getD (b .clients) j 0)
+        → Passes i (getD (a .clients) i 0) x i′ → Passes j (getD (b .clients) j 0) x j′ → Comparing a n b m i′ j′ (less || r) (greater || r′)
+    comparing-next {x} {i′} {j′} h l d d′ e u w = subst₂ (λ (f g : Bool). Comparing a n b m i′ j′ (less || f) (greater || g)) (sym (d .is x e)) (sym (d′ .is x (omega arith)))
+        (comparing-more h l e (record { client = refl; clock = refl; next = u }) (record { client = refl; clock = refl; next = w }))
+
     pub comparing-left : {r : Bool} → m ≤ j → Nulls (a .clocks) i n r → Judges (rowsOf n (a .clients) (a .clocks)) (rowsOf m (b .clients) (b .clocks)) (judged less (greater || r))
     comparing-left {r} h z = judge less (greater || r) (half-right a greater (s .li) (s .left) z (half-at refl (span-none (rowAt b) m j h) (s .high)))
         (half-left (half-at (span-none (rowAt b) m j h) refl (s .low)))
@@ -319,3 +369,12 @@ module _ {a : Slices} {n : ℕ} {b : Slices} {m : ℕ} where
     pub comparing-right : {r : Bool} → n ≤ i → Nulls (b .clocks) j m r → Judges (rowsOf n (a .clients) (a .clocks)) (rowsOf m (b .clients) (b .clocks)) (judged (less || r) greater)
     comparing-right {r} h z = judge (less || r) greater (half-left (half-at (span-none (rowAt a) n i h) refl (s .high)))
         (half-right b less (s .lj) (s .right) z (half-at refl (span-none (rowAt a) n i h) (s .low)))
+
+  -- the first rows, where clients are the same on both sides
+  pub comparing-front : {r : ℕ} → Table (held (a .clients) (a .clocks) n) → Table (held (b .clients) (b .clocks) m) → r ≤ n → r ≤ m → Firsts r (element (a .clients)) (b .clients)
+      → (h : ℕ) → h ≤ r → Comparing a n b m h h (anyLess (a .clocks) (b .clocks) h) (anyLess (b .clocks) (a .clocks) h)
+  unfolding anyLess
+  comparing-front ta tb ln lm e zero l = comparing-none ta tb
+  comparing-front ta tb ln lm e (suc h) l =
+      subst (λ (i : ℕ). Comparing a n b m i i (anyLess (a .clocks) (b .clocks) (suc h)) (anyLess (b .clocks) (a .clocks) (suc h))) (let z : h + 1 ≡ suc h = omega arith in z)
+      (comparing-more (comparing-front ta tb ln lm e h (omega arith)) (omega arith) (omega arith) (omega (arith, e .are h l)) (same-side a n h refl refl) (same-side b m h refl (e .are h l)))

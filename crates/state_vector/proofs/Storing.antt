@@ -13,14 +13,14 @@ use Rattle.varint.specs.declared.Refusal.the-variants.{Full, Malformed}
 use Rattle.tables.specs.Answers.{saidMade}
 use Rattle.state_vector.specs.Rows.{Row, row, Set}
 use Rattle.state_vector.specs.Vectors.{Slices, two, held, rowsOf, room, most, Table, padded, filled, Writes}
-use Rattle.state_vector.specs.Inner.{rowAt, span, put, Holds, Copies, Opens, Finds, Closes, fits, over, Stores, Rests}
+use Rattle.state_vector.specs.Inner.{rowAt, span, Holds, Closes, fits, over, Stores, Rests}
 use Rattle.state_vector.proofs.Looking.{look, same-or-not, length-put-new, length-put-old, set-right}
 use Rattle.state_vector.proofs.Spanning.{length-span, span-snoc, span-append, span-none, span-same, put-found, put-new, rows-span, clients-of, clocks-of, table-span, table-rising, table-climbs, look-none, look-found}
 
 pub row-of : {c d k l : ℕ} → c ≡ d → k ≡ l → row c k ≡ row d l
 row-of p q = λ i. record { client = p i; clock = q i }
 
-two-of : {cs ds ks ls : List ℕ} → cs ≡ ds → ks ≡ ls → two cs ks ≡ two ds ls
+pub two-of : {cs ds ks ls : List ℕ} → cs ≡ ds → ks ≡ ls → two cs ks ≡ two ds ls
 two-of p q = λ i. record { clients = p i; clocks = q i }
 
 -- ## One row more

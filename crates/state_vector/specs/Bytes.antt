@@ -2,9 +2,11 @@
 use mathlib.Core.Path.{_≡_}
 use mathlib.Core.List.{List, [], _∷_, _++_}
 use mathlib.Core.Bool.{cond}
-use Prim.Native.Nat.{ℕ, zero, suc, _<_, _^_}
+use Prim.Native.Nat.{ℕ, zero, suc}
 use lib.Dec.{eqb, leb}
-use lib.ListN.{length}
+use lib.ListN.{length, getD}
+use mir.Syntax.{w32, w64}
+use mir.Val.{Fits}
 use Rattle.varint.specs.Number.{andThen, readAt, bytesOf, Written, unwritten, writeAt}
 use Rattle.varint.specs.Answer.{noOf, wrote}
 use Rattle.varint.specs.declared.Refusal.the-variants.{Full, Malformed}
@@ -73,7 +75,7 @@ pub data Decodes (bytes : List ℕ) (place : ℕ) (o out : Slices) (d : Decoding
       → Decodes bytes place o out d
   refused : (n : ℕ) → vectorAt (most o) bytes place ≡ stop n → d ≡ decoding n 0 place → out ≡ filled [] o → Decodes bytes place o out d
 
--- client numbers are u64 and clocks u32, as every slice has them
-unfoldable pub Words : List Row → Type 0
-Words [] = Unit {0}
-Words (r ∷ rs) = (r .client < 2 ^ 64) × (r .clock < 2 ^ 32) × Words rs
+-- clients are u64 and clocks u32: what Rattle knows of every slice of these that is lent
+pub record Typed (o : Slices) : Type 0 where
+  pub clients : (j : ℕ) → Fits w64 (getD (o .clients) j 0)
+  pub clocks : (j : ℕ) → Fits w32 (getD (o .clocks) j 0)

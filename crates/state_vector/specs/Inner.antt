@@ -1,8 +1,8 @@
 -- What the private functions promise each other. No promise of a public routine needs it.
 use mathlib.Core.Path.{_≡_}
-use mathlib.Core.Bool.{Bool, true, false, cond}
+use mathlib.Core.Bool.{Bool, true, false, cond, _||_}
 use mathlib.Core.List.{List, [], _∷_, _++_}
-use Prim.Native.Nat.{ℕ, zero, suc, _+_, _-_, _≤_, _<_}
+use Prim.Native.Nat.{ℕ, zero, suc, _+_, _-_, _≤_, _<_, min, max}
 use lib.Dec.{eqb, ltb}
 use lib.ListN.{length, getD, set}
 use Rattle.varint.specs.declared.Refusal.the-variants.{Full}
@@ -52,9 +52,12 @@ pub record Holds (most : ℕ) (o : Slices) (k : ℕ) (t : List Row) : Type 0 whe
   pub many : length t ≡ k
   pub stand : k ≤ most → span (rowAt o) 0 k ≡ t
 
--- the first n elements are the same
-pub record Copies (n : ℕ) (s out : List ℕ) : Type 0 where
-  pub same : (j : ℕ) → j < n → getD out j 0 ≡ getD s j 0
+-- the first n elements by their indices
+pub record Firsts (n : ℕ) (f : ℕ → ℕ) (out : List ℕ) : Type 0 where
+  pub are : (j : ℕ) → j < n → getD out j 0 ≡ f j
+
+abbrev pub element : List ℕ → ℕ → ℕ
+element s j = getD s j 0
 
 -- the elements from i to n moved up by one; what stands at i is free
 pub record Opens (i n : ℕ) (s out : List ℕ) : Type 0 where
@@ -78,6 +81,15 @@ pub record Passes (i p x i′ : ℕ) : Type 0 where
 pub record Rests (most : ℕ) (a : Slices) (i n : ℕ) (o : Slices) (k : ℕ) (out : Slices) (m : ℕ) : Type 0 where
   pub behind : (t : List Row) → Holds most o k t → Holds most out m (t ++ span (rowAt a) i (n - i))
 
+-- the first r rows of two vectors have the same clients, and stand merged in front
+pub record Fronts (a : Slices) (n : ℕ) (b : Slices) (m most : ℕ) (out : Slices) (r : ℕ) : Type 0 where
+  pub left : r ≤ n
+  pub right : r ≤ m
+  pub fits : r ≤ most
+  pub same : Firsts r (element (a .clients)) (b .clients)
+  pub clients : Firsts r (element (a .clients)) (out .clients)
+  pub clocks : Firsts r (λ j. max (element (a .clocks) j) (element (b .clocks) j)) (out .clocks)
+
 -- the vector of two
 pub record Unites (a b : List Row) (most : ℕ) (out : Slices) (k : ℕ) : Type 0 where
   pub t : List Row
@@ -88,6 +100,15 @@ pub record Unites (a b : List Row) (most : ℕ) (out : Slices) (k : ℕ) : Type 
 pub record Nulls (ks : List ℕ) (i n : ℕ) (r : Bool) : Type 0 where
   pub none : r ≡ false → (j : ℕ) → i ≤ j → j < n → getD ks j 0 ≡ 0
   pub some : ((j : ℕ) → i ≤ j → j < n → getD ks j 0 ≡ 0) → r ≡ false
+
+-- whether one of the first n clocks is less on the left
+unfoldable pub anyLess : List ℕ → List ℕ → ℕ → Bool
+anyLess ks ls zero = false
+anyLess ks ls (suc n) = anyLess ks ls n || ltb (getD ks n 0) (getD ls n 0)
+
+-- the same of the least client x of two rows (p, u) and (q, v): "absent as 0"
+pub record Unders (p u q v : ℕ) (r : Bool) : Type 0 where
+  pub is : (x : ℕ) → x ≡ min p q → r ≡ ltb (cond (eqb p x) u 0) (cond (eqb q x) v 0)
 
 -- the verdict by two flags: some clock is less, some clock is greater
 abbrev pub judged : Bool → Bool → Order

@@ -16,7 +16,7 @@ ghost use Rattle.tables.specs.Answers.{Says};
 ghost use Rattle.tables.specs.Limits.{vectorLimit};
 ghost use Rattle.state_vector.specs.Rows.{row, at, smaller, Set};
 ghost use Rattle.state_vector.specs.Vectors.{two, held, rows, rowsOf, room, Table, filled, Writes, Gets, MinSet, MaxSet, Merged, Compared};
-ghost use Rattle.state_vector.specs.Inner.{Climbs, Finds, Stands, put, Holds, Opens, Closes, Copies, Stores, Passes, Rests, Unites, Nulls, judged, Judges, rowAt, span, Puts, Reads};
+ghost use Rattle.state_vector.specs.Inner.{Climbs, Finds, Stands, put, Holds, Opens, Closes, Firsts, element, Stores, Passes, Rests, Fronts, Unites, Nulls, anyLess, Unders, judged, Judges, rowAt, span, Puts, Reads};
 ghost use Rattle.state_vector.specs.Bytes.{rowBytes, encoded, Encoded, pairsAt, saidDecoded, Decodes};
 ghost use Rattle.varint.specs.Number.{bytesOf};
 
@@ -315,7 +315,7 @@ fn zero_rest(to_clients: &mut [u64], to_clocks: &mut [u32], k: usize)
 // The first n elements.
 fn copy_wide(src: &[u64], n: usize, dst: &mut [u64])
     requires { ⌜ (n ≤ length (now src)) × (n ≤ length (now dst)) ⌝ }
-    ensures { λ r. ⌜ Copies n (now (src .entry)) (now (dst .exit)) ⌝ }
+    ensures { λ r. ⌜ Firsts n (element (now (src .entry))) (now (dst .exit)) ⌝ }
 {
     let mut i: usize = 0;
     while i < n {
@@ -326,7 +326,7 @@ fn copy_wide(src: &[u64], n: usize, dst: &mut [u64])
 
 fn copy(src: &[u32], n: usize, dst: &mut [u32])
     requires { ⌜ (n ≤ length (now src)) × (n ≤ length (now dst)) ⌝ }
-    ensures { λ r. ⌜ Copies n (now (src .entry)) (now (dst .exit)) ⌝ }
+    ensures { λ r. ⌜ Firsts n (element (now (src .entry))) (now (dst .exit)) ⌝ }
 {
     let mut i: usize = 0;
     while i < n {
@@ -508,7 +508,58 @@ fn rest(
     k
 }
 
-// The rows of two vectors merged, a client a step: how many they are. They stand in front where at most `most` are.
+// How many rows in front have the same clients in two vectors.
+fn same_front(clients: &[u64], b_clients: &[u64], n: usize) -> usize
+    requires { ⌜ (n ≤ length (now clients)) × (n ≤ length (now «b_clients»)) ⌝ }
+    ensures { λ r. ⌜ (r ≤ n) × Firsts r (element (now (clients .entry))) (now («b_clients» .entry)) ⌝ }
+{
+    let mut i: usize = 0;
+    while i < n {
+        if clients[i] != b_clients[i] {
+            return i;
+        }
+        i += 1;
+    }
+    i
+}
+
+// The larger of the first n clocks, one by one.
+fn larger_front(clocks: &[u32], b_clocks: &[u32], n: usize, to_clocks: &mut [u32])
+    requires { ⌜ (n ≤ length (now clocks)) × (n ≤ length (now «b_clocks»)) × (n ≤ length (now «to_clocks»)) ⌝ }
+    ensures { λ r. ⌜ Firsts n (λ j. max (element (now (clocks .entry)) j) (element (now («b_clocks» .entry)) j)) (now («to_clocks» .exit)) ⌝ }
+{
+    let mut i: usize = 0;
+    while i < n {
+        to_clocks[i] = larger(clocks[i], b_clocks[i]);
+        i += 1;
+    }
+}
+
+// The first rows merged, by columns, as long as they have the same clients and there is room: how many.
+fn merge_front(
+    clients: &[u64],
+    clocks: &[u32],
+    n: usize,
+    b_clients: &[u64],
+    b_clocks: &[u32],
+    m: usize,
+    to_clients: &mut [u64],
+    to_clocks: &mut [u32],
+    most: usize,
+) -> usize
+    requires { ⌜ Table (held (now clients) (now clocks) n) ⌝ }
+    requires { ⌜ Table (held (now «b_clients») (now «b_clocks») m) ⌝ }
+    requires { ⌜ most ≤ room (two (now «to_clients») (now «to_clocks»)) ⌝ }
+    ensures { λ r. ⌜ Fronts (two (now (clients .entry)) (now (clocks .entry))) n (two (now («b_clients» .entry)) (now («b_clocks» .entry))) m
+        most (two (now («to_clients» .exit)) (now («to_clocks» .exit))) r ⌝ }
+{
+    let front = lesser(same_front(clients, b_clients, lesser(n, m)), most);
+    copy_wide(clients, front, to_clients);
+    larger_front(clocks, b_clocks, front, to_clocks);
+    front
+}
+
+// The rows of two vectors merged: how many they are. They stand in front where at most `most` are. Behind the first rows it goes a client a step.
 fn merge_rows(
     clients: &[u64],
     clocks: &[u32],
@@ -526,9 +577,20 @@ fn merge_rows(
     ensures { λ r. ⌜ Unites (rowsOf n (now (clients .entry)) (now (clocks .entry))) (rowsOf m (now («b_clients» .entry)) (now («b_clocks» .entry)))
         most (two (now («to_clients» .exit)) (now («to_clocks» .exit))) r ⌝ }
 {
-    let mut i: usize = 0;
-    let mut j: usize = 0;
-    let mut k: usize = 0;
+    let front = merge_front(
+        clients,
+        clocks,
+        n,
+        b_clients,
+        b_clocks,
+        m,
+        to_clients,
+        to_clocks,
+        most,
+    );
+    let mut i = front;
+    let mut j = front;
+    let mut k = front;
     while i < n {
         if m <= j {
             return rest(clients, clocks, i, n, to_clients, to_clocks, most, k);
@@ -575,7 +637,28 @@ fn verdict(less: bool, greater: bool) -> Order
     Order::Equal
 }
 
-// The verdict on two vectors, a client a step.
+// Whether one of the first n clocks is less on the left.
+fn any_less(clocks: &[u32], b_clocks: &[u32], n: usize) -> bool
+    requires { ⌜ (n ≤ length (now clocks)) × (n ≤ length (now «b_clocks»)) ⌝ }
+    ensures { λ r. ⌜ r ≡ anyLess (now (clocks .entry)) (now («b_clocks» .entry)) n ⌝ }
+{
+    let mut found = false;
+    let mut i: usize = 0;
+    while i < n {
+        found = found | (clocks[i] < b_clocks[i]);
+        i += 1;
+    }
+    found
+}
+
+// Whether the next client's clock is less on the left, where rows (p, u) and (q, v) are next.
+fn under(p: u64, u: u32, q: u64, v: u32) -> bool
+    ensures { λ r. ⌜ Unders p u q v r ⌝ }
+{
+    ((q < p) & (0 < v)) | ((p == q) & (u < v))
+}
+
+// The verdict on two vectors. Where the first clients are the same, it goes by columns; then it is a client a step.
 fn cmp_rows(
     clients: &[u64],
     clocks: &[u32],
@@ -588,21 +671,22 @@ fn cmp_rows(
     requires { ⌜ Table (held (now «b_clients») (now «b_clocks») m) ⌝ }
     ensures { λ r. ⌜ Judges (rowsOf n (now (clients .entry)) (now (clocks .entry))) (rowsOf m (now («b_clients» .entry)) (now («b_clocks» .entry))) r ⌝ }
 {
-    let mut i: usize = 0;
-    let mut j: usize = 0;
-    let mut less = false;
-    let mut greater = false;
+    let front = same_front(clients, b_clients, lesser(n, m));
+    let mut i = front;
+    let mut j = front;
+    let mut less = any_less(clocks, b_clocks, front);
+    let mut greater = any_less(b_clocks, clocks, front);
     while i < n {
         if m <= j {
             return verdict(less, greater | any(clocks, i, n));
         }
         let p = clients[i];
         let q = b_clients[j];
+        let u = clocks[i];
+        let v = b_clocks[j];
+        less = less | under(p, u, q, v);
+        greater = greater | under(q, v, p, u);
         let x = lower(p, q);
-        let y = counted(p, x, clocks[i]);
-        let z = counted(q, x, b_clocks[j]);
-        less = less | (y < z);
-        greater = greater | (z < y);
         i = passed(i, p, x);
         j = passed(j, q, x);
     }

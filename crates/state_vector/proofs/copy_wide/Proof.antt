@@ -1,16 +1,16 @@
--- `state_vector::copy_wide` meets its contract: the loop goes by `Copies`. Assumes nothing.
+-- `state_vector::copy_wide` meets its contract: the loop goes by `Firsts`. Assumes nothing.
 use native.Mathlib.Omega.{arith}
 use mathlib.Core.Path.{_≡_, refl}
 use Prim.Native.Nat.{_-_, _≤_}
 use lib.ListN.{length, length-set}
-use Rattle.state_vector.specs.Inner.{Copies}
-use Rattle.state_vector.proofs.Loops.{copies-none, copies-more, copies-all}
+use Rattle.state_vector.specs.Inner.{Firsts, element}
+use Rattle.state_vector.proofs.Loops.{firsts-none, firsts-store, firsts-all}
 use borrow.Author.Needs.{needs}
 use Rattle.state_vector.proofs.copy_wide.Statement.{statement}
 use Rattle.state_vector.proofs.copy_wide.Tie as tie
 
 abbrev Inv-loop : tie.InvT-loop
-Inv-loop src n dst₀ i₀ dst i = Copies i src dst × (length dst ≡ length dst₀) × (i ≤ n)
+Inv-loop src n dst₀ i₀ dst i = Firsts i (element src) dst × (length dst ≡ length dst₀) × (i ≤ n)
 
 abbrev μ-loop : tie.MeasureT-loop
 μ-loop src n dst₀ i₀ dst i = n - i
@@ -21,13 +21,13 @@ copy-wide-spec =
     (tie.spec
     Inv-loop
     μ-loop
-    (λ c. (copies-none _ _, refl, omega arith))
+    (λ c. (firsts-none _ _, refl, omega arith))
     (λ c. search needs)
     (λ c. search needs)
     (λ c. search needs)
     (λ c. search needs)
     (λ c. search needs)
     (λ c. search needs)
-    (λ c. (copies-more (c .before .before .loop .inv .0) (omega arith), simp length-set (omega arith), omega arith))
+    (λ c. (firsts-store (c .before .before .loop .inv .0) (omega arith) refl, simp length-set (omega arith), omega arith))
     (λ c. c .before .loop .inv .1)
-    (λ c. copies-all (c .before .loop .inv .0) (omega arith)))
+    (λ c. firsts-all (c .before .loop .inv .0) (omega arith)))

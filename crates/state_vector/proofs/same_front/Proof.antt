@@ -1,0 +1,32 @@
+-- `state_vector::same_front` meets its contract: the loop goes by `Firsts`. Assumes nothing.
+use native.Mathlib.Omega.{arith}
+use mathlib.Core.Path.{sym}
+use Prim.Native.Nat.{_-_, _≤_}
+use Rattle.state_vector.specs.Inner.{Firsts, element}
+use Rattle.state_vector.proofs.Loops.{firsts-none, firsts-more}
+use borrow.Author.Needs.{needs}
+use Rattle.state_vector.proofs.same_front.Statement.{statement}
+use Rattle.state_vector.proofs.same_front.Tie as tie
+
+abbrev Inv-loop : tie.InvT-loop
+Inv-loop clients b-clients n i₀ i = (i ≤ n) × Firsts i (element clients) b-clients
+
+abbrev μ-loop : tie.MeasureT-loop
+μ-loop clients b-clients n i₀ i = n - i
+
+pub same-front-spec : {M : Type 1} → statement M
+same-front-spec =
+    tie.close
+    (tie.spec
+    Inv-loop
+    μ-loop
+    (λ c. (omega arith, firsts-none _ _))
+    (λ c. search needs)
+    (λ c. search needs)
+    (λ c. search needs)
+    (λ c. search needs)
+    (λ c. c .before .before .before .before .loop .inv)
+    (λ c. search needs)
+    (λ c. search needs)
+    (λ c. (omega arith, firsts-more (c .before .before .before .before .loop .inv .1) (omega arith)))
+    (λ c. c .before .loop .inv))
