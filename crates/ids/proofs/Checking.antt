@@ -11,19 +11,16 @@ use Rattle.tables.specs.Answers.{Says}
 use Rattle.tables.proofs.Saying.{says-yes, says-no, says-both}
 use Rattle.ids.specs.Inner.{numberOf, Checked, Both, Picked, Further}
 
--- the order of ids is that of their places
-pub precedes-says : (c x d y : ℕ) → x < 2 ^ 32 → y < 2 ^ 32 → Says (numberOf c x < numberOf d y) (ltb c d || (eqb c d && ltb x y))
-precedes-says c x d y h g = go (ltb c d) (eqb c d) (ltb x y) refl refl refl
-  where
-    go : (p q r : Bool) → ltb c d ≡ p → eqb c d ≡ q → ltb x y ≡ r → Says (numberOf c x < numberOf d y) (p || (q && r))
-    go true q r a b e = says-yes (omega (arith, ltb-true c d a))
-    go false true true a b e = says-yes (omega (arith, eqb-true c d b, ltb-true x y e))
-    go false true false a b e = says-no (λ l. omega (arith, eqb-true c d b, ltb-false x y e))
-    go false false r a b e = says-no (λ l. let n : c ≡ d → ⊥ = eqb-false c d b in omega (arith, ltb-false c d a))
-
 -- a test says of two numbers which is less
 pub less-says : (x y : ℕ) → Says (x < y) (ltb x y)
 less-says x y = record { right = λ e. ltb-true x y e; wrong = λ e l. omega (arith, ltb-false x y e) }
+
+-- the order of ids is that of their places: within a client, and between two
+pub same-says : {c d x y : ℕ} (t : Bool) → c ≡ d → Says (x < y) t → Says (numberOf c x < numberOf d y) t
+same-says t e s = record { right = λ h. omega (arith, s .right h); wrong = λ h l. s .wrong h (omega arith) }
+
+pub other-says : (c x d y : ℕ) → (c ≡ d → ⊥) → x < 2 ^ 32 → y < 2 ^ 32 → Says (numberOf c x < numberOf d y) (ltb c d)
+other-says c x d y n h g = record { right = λ e. omega (arith, ltb-true c d e); wrong = λ e l. omega (arith, ltb-false c d e) }
 
 -- each index below i was tested
 pub record Tested (P : ℕ → Type 0) (i : ℕ) (ok : Bool) : Type 0 where

@@ -1,20 +1,20 @@
 -- The steps of the union of two id tables: rows are taken in the order of their starts, so the client of the last row never falls. Assumes nothing.
-use mathlib.Core.Path.{_≡_, refl, ap₂, sym, subst, subst₂, _∙_}
+use mathlib.Core.Path.{_≡_, refl, ap, sym, subst, subst₂, _∙_}
 use mathlib.Core.Bool.{Bool, true, false}
 use mathlib.Core.List.{List}
-use Prim.Native.Nat.{ℕ, _+_, _-_, _*_, _≤_, _<_, max}
+use Prim.Native.Nat.{ℕ, _+_, _*_, _≤_, _<_}
 use native.Mathlib.Omega.{arith}
 use lib.ListN.{getD}
 use Rattle.tables.specs.Answers.{Says}
 use Rattle.tables.specs.Limits.{rowLimit}
 use Rattle.tables.specs.Inner.Rows as inner
 use Rattle.tables.specs.Inner.Sweep.{Holds}
-use Rattle.tables.specs.Inner.Unite.{United}
-use Rattle.tables.proofs.Uniting.{united-none, united-swap, united-rest, rest-right, rest-left, rest-all}
+use Rattle.tables.proofs.Uniting.{united-none, united-swap, rest-right, rest-all}
 use Rattle.tables.proofs.Taking.{united-take}
+use Rattle.ids.specs.declared.Entry.{Entry}
 use Rattle.ids.specs.declared.Taken.{Taken}
 use Rattle.ids.specs.declared.Added.{Added}
-use Rattle.ids.specs.Inner.{numberOf, idRow, idRows, IdTable, beyond, Picked, Takes, left, right, Open, Joins, Merging, Tail}
+use Rattle.ids.specs.Inner.{numberOf, idRow, idRows, IdTable, beyond, Picked, entryAt, taken, startOf, Earlier, first, second, Takes, left, right, Open, Joins, Merging}
 use Rattle.ids.proofs.Numbering.{Narrow, Wide, links, rises}
 
 pub merging-none : (room : ℕ) (ac aS ae : List ℕ) (n : ℕ) (bc bs be : List ℕ) (m : ℕ) (oc os oe : List ℕ) → Merging room ac aS ae n 0 bc bs be m 0 oc os oe 0 0 0
@@ -32,84 +32,64 @@ merging-swap p = record { united = united-swap _ _ _ _ _ _ _ _ _ _ _ (p .united)
 
 -- a row of the left table is taken
 taking : (room : ℕ) (ac aS ae : List ℕ) → Wide ac → Narrow aS → Narrow ae → (n : ℕ) → IdTable ac aS ae n → (bc bs be : List ℕ) → Narrow bs → (m : ℕ) → IdTable bc bs be m
-    → (i j : ℕ) → i < n → j < m → (oc os oe oc′ os′ oe′ : List ℕ) (k c e i′ j′ d x y : ℕ) (a : Added)
-    → i′ ≡ i + 1 → j′ ≡ j → d ≡ getD ac i 0 → x ≡ getD aS i 0 → y ≡ getD ae i 0 → numberOf (getD ac i 0) (getD aS i 0) ≤ numberOf (getD bc j 0) (getD bs j 0)
-    → Merging room ac aS ae n i bc bs be m j oc os oe k c e → Joins room oc os oe k c e d x y oc′ os′ oe′ a → Merging room ac aS ae n i′ bc bs be m j′ oc′ os′ oe′ (a .k) d (a .end)
-taking room ac aS ae wa fa ga n ta bc bs be fb m tb i j h g oc os oe oc′ os′ oe′ k c e i′ j′ d x y a p q s t w l z o =
-    subst₂ (λ (v w : ℕ). Merging room ac aS ae n v bc bs be m w oc′ os′ oe′ (a .k) d (a .end)) (sym p) (sym q)
+    → (i j : ℕ) → i < n → (j < m → startOf (entryAt ac aS ae i) ≤ startOf (entryAt bc bs be j)) → (oc os oe oc′ os′ oe′ : List ℕ) (k c e : ℕ) (a : Added)
+    → Merging room ac aS ae n i bc bs be m j oc os oe k c e → Joins room oc os oe k c e (getD ac i 0) (getD aS i 0) (getD ae i 0) oc′ os′ oe′ a
+    → Merging room ac aS ae n (i + 1) bc bs be m j oc′ os′ oe′ (a .k) (getD ac i 0) (a .end)
+taking room ac aS ae wa fa ga n ta bc bs be fb m tb i j h l oc os oe oc′ os′ oe′ k c e a z o =
     record {
       united =
-          united-take beyond (idRow ac aS ae) n (idRow bc bs be) m room (λ _. refl) (λ _. refl) (links ac aS ae n ta) (links bc bs be m tb) i j k (numberOf c e) (a .k) (numberOf d x) (numberOf d y) (numberOf d (a .end))
-          (idRow oc os oe) (idRow oc′ os′ oe′) h g (ap₂ numberOf s t) (ap₂ numberOf s w) (omega arith) (z .united) (o .adds) (omega (arith, wa i, ga i)) (o .further);
+          united-take beyond (idRow ac aS ae) n (idRow bc bs be) m room (λ _. refl) (λ _. refl) (links ac aS ae n ta) (links bc bs be m tb) i j k (numberOf c e) (a .k) _ _ (numberOf (getD ac i 0) (a .end))
+          (idRow oc os oe) (idRow oc′ os′ oe′) h refl refl l (z .united) (o .adds) (omega (arith, wa i, ga i)) (o .further);
       opens = o .opens;
-      one = λ b. omega (arith, rises ac aS ae fa n i ta b);
-      two = λ b. omega (arith, fa i, fb j);
+      one = λ b. rises ac aS ae fa n i ta b;
+      two = λ b. omega (arith, l b, fa i, fb j);
     }
 
 module _ (room : ℕ) (ac aS ae : List ℕ) (wa : Wide ac) (fa : Narrow aS) (ga : Narrow ae) (n : ℕ) (ta : IdTable ac aS ae n)
-    (bc bs be : List ℕ) (wb : Wide bc) (fb : Narrow bs) (gb : Narrow be) (m : ℕ) (tb : IdTable bc bs be m) where
+    (bc bs be : List ℕ) (wb : Wide bc) (fb : Narrow bs) (gb : Narrow be) (m : ℕ) (tb : IdTable bc bs be m) (i j : ℕ) (oc os oe : List ℕ) (k c e : ℕ) (t : Taken) where
   -- A STEP
-  pub merging-more : (i j : ℕ) → i < n → j < m → (oc os oe oc′ os′ oe′ : List ℕ) (k c e : ℕ) (t : Taken) (a : Added) → Takes ac aS ae i bc bs be j t
-      → Merging room ac aS ae n i bc bs be m j oc os oe k c e → Joins room oc os oe k c e (t .client) (t .start) (t .end) oc′ os′ oe′ a
-      → Merging room ac aS ae n (t .i) bc bs be m (t .j) oc′ os′ oe′ (a .k) (t .client) (a .end)
-  merging-more i j h g oc os oe oc′ os′ oe′ k c e t a (left p q s u w l) z o =
-      taking room ac aS ae wa fa ga n ta bc bs be fb m tb i j h g oc os oe oc′ os′ oe′ k c e _ _ _ _ _ a p q s u w l z o
-  merging-more i j h g oc os oe oc′ os′ oe′ k c e t a (right p q s u w l) z o =
-      merging-swap (taking room bc bs be wb fb gb m tb ac aS ae fa n ta j i g h oc os oe oc′ os′ oe′ k c e _ _ _ _ _ a q p s u w l (merging-swap z) o)
+  pub merging-more : (oc′ os′ oe′ : List ℕ) (a : Added) → Takes ac aS ae n i bc bs be m j t → Merging room ac aS ae n i bc bs be m j oc os oe k c e
+      → Joins room oc os oe k c e (t .client) (t .start) (t .end) oc′ os′ oe′ a → Merging room ac aS ae n (t .i) bc bs be m (t .j) oc′ os′ oe′ (a .k) (t .client) (a .end)
+  merging-more oc′ os′ oe′ a (left h q l) z =
+      subst (λ (t : Taken). Joins room oc os oe k c e (t .client) (t .start) (t .end) oc′ os′ oe′ a → Merging room ac aS ae n (t .i) bc bs be m (t .j) oc′ os′ oe′ (a .k) (t .client) (a .end)) (sym q)
+      (taking room ac aS ae wa fa ga n ta bc bs be fb m tb i j h l oc os oe oc′ os′ oe′ k c e a z)
+  merging-more oc′ os′ oe′ a (right h q l) z =
+      subst (λ (t : Taken). Joins room oc os oe k c e (t .client) (t .start) (t .end) oc′ os′ oe′ a → Merging room ac aS ae n (t .i) bc bs be m (t .j) oc′ os′ oe′ (a .k) (t .client) (a .end)) (sym q)
+      (λ o. merging-swap (taking room bc bs be wb fb gb m tb ac aS ae fa n ta j i h l oc os oe oc′ os′ oe′ k c e a (merging-swap z) o))
 
   -- what a taken row may be asked for
-  pub later : (i j : ℕ) → i < n → j < m → (oc os oe : List ℕ) (k c e : ℕ) (t : Taken) → Takes ac aS ae i bc bs be j t → Merging room ac aS ae n i bc bs be m j oc os oe k c e
-      → (k ≤ 2 * rowLimit) × (c ≤ t .client) × (t .start < t .end)
-  later i j h g oc os oe k c e t (left p q s u w l) z = (omega (arith, z .united .few, ta .few, tb .few), omega (arith, z .one h), omega (arith, ta .filled i h))
-  later i j h g oc os oe k c e t (right p q s u w l) z = (omega (arith, z .united .few, ta .few, tb .few), omega (arith, z .two g), omega (arith, tb .filled j g))
+  pub later : Takes ac aS ae n i bc bs be m j t → Merging room ac aS ae n i bc bs be m j oc os oe k c e → (k ≤ 2 * rowLimit) × (c ≤ t .client) × (t .start < t .end)
+  later (left h q l) z = subst (λ (t : Taken). (k ≤ 2 * rowLimit) × (c ≤ t .client) × (t .start < t .end)) (sym q) (few, z .one h, ta .filled i h)
+    where
+      few : k ≤ 2 * rowLimit
+      few = omega (arith, z .united .few, z .united .one .within, z .united .two .within, ta .few, tb .few)
+  later (right h q l) z = subst (λ (t : Taken). (k ≤ 2 * rowLimit) × (c ≤ t .client) × (t .start < t .end)) (sym q) (few, z .two h, tb .filled j h)
+    where
+      few : k ≤ 2 * rowLimit
+      few = omega (arith, z .united .few, z .united .one .within, z .united .two .within, ta .few, tb .few)
 
-pub moved : {ac aS ae bc bs be : List ℕ} {i j : ℕ} {t : Taken} → Takes ac aS ae i bc bs be j t → i + j < t .i + t .j
-moved (left p q s u w l) = omega arith
-moved (right p q s u w l) = omega arith
+pub moved : {ac aS ae bc bs be : List ℕ} {n i m j : ℕ} {t : Taken} → Takes ac aS ae n i bc bs be m j t → i + j < t .i + t .j
+moved {i = i} {j = j} (left h q l) = subst (λ (t : Taken). i + j < t .i + t .j) (sym q) (omega arith)
+moved {i = i} {j = j} (right h q l) = subst (λ (t : Taken). i + j < t .i + t .j) (sym q) (omega arith)
 
--- ## The rows that are left
-
-pub tail-left : (room : ℕ) (ac aS ae : List ℕ) (n : ℕ) (bc bs be : List ℕ) (m : ℕ) → IdTable bc bs be m → (i j : ℕ) (oc os oe : List ℕ) (k c e : ℕ)
-    → Merging room ac aS ae n i bc bs be m j oc os oe k c e → Tail room ac aS ae n i oc os oe k c e
-tail-left room ac aS ae n bc bs be m tb i j oc os oe k c e z =
-    record { opens = z .opens; within = z .united .one .within; later = z .one; few = omega (arith, z .united .few, z .united .two .within, tb .few) }
-
-pub tail-right : (room : ℕ) (ac aS ae : List ℕ) (n : ℕ) → IdTable ac aS ae n → (bc bs be : List ℕ) (m : ℕ) (i j : ℕ) (oc os oe : List ℕ) (k c e : ℕ)
-    → Merging room ac aS ae n i bc bs be m j oc os oe k c e → Tail room bc bs be m j oc os oe k c e
-tail-right room ac aS ae n ta bc bs be m i j oc os oe k c e z = tail-left room bc bs be m ac aS ae n ta j i oc os oe k c e (merging-swap z)
-
--- from the rows put out at first to those put out now, whatever the other table was
-pub record Resting (room : ℕ) (cs ss es : List ℕ) (n i₀ : ℕ) (oc₀ os₀ oe₀ : List ℕ) (k₀ c₀ e₀ i : ℕ) (oc os oe : List ℕ) (k c e : ℕ) : Type 0 where
-  pub tail : Tail room cs ss es n i oc os oe k c e
-  pub on : (bc bs be : List ℕ) (m : ℕ) → IdTable bc bs be m
-      → United beyond (idRow cs ss es) n i₀ (idRow bc bs be) m m room (idRow oc₀ os₀ oe₀) k₀ (numberOf c₀ e₀)
-      → United beyond (idRow cs ss es) n i (idRow bc bs be) m m room (idRow oc os oe) k (numberOf c e)
-
-pub resting-none : {room n i k c e : ℕ} {cs ss es oc os oe : List ℕ} → Tail room cs ss es n i oc os oe k c e → Resting room cs ss es n i oc os oe k c e i oc os oe k c e
-resting-none t = record { tail = t; on = λ _ _ _ _ _ p. p }
-
-pub resting-more : (room : ℕ) (cs ss es : List ℕ) → Wide cs → Narrow ss → Narrow es → (n : ℕ) → IdTable cs ss es n → (i₀ : ℕ) (oc₀ os₀ oe₀ : List ℕ) (k₀ c₀ e₀ i : ℕ) (oc os oe oc′ os′ oe′ : List ℕ) (k c e : ℕ) (a : Added)
-    → i < n → Resting room cs ss es n i₀ oc₀ os₀ oe₀ k₀ c₀ e₀ i oc os oe k c e → Joins room oc os oe k c e (getD cs i 0) (getD ss i 0) (getD es i 0) oc′ os′ oe′ a
-    → Resting room cs ss es n i₀ oc₀ os₀ oe₀ k₀ c₀ e₀ (i + 1) oc′ os′ oe′ (a .k) (getD cs i 0) (a .end)
-resting-more room cs ss es w f g n t i₀ oc₀ os₀ oe₀ k₀ c₀ e₀ i oc os oe oc′ os′ oe′ k c e a h r o =
-    record {
-      tail = record { opens = o .opens; within = omega arith; later = λ b. rises cs ss es f n i t b; few = omega (arith, r .tail .few, o .adds .few) };
-      on = λ bc bs be m tb p.
-          united-rest beyond (idRow cs ss es) n (idRow bc bs be) m room (λ _. refl) (λ _. refl) (links cs ss es n t) (links bc bs be m tb) i k (numberOf c e) (a .k) _ _ (numberOf (getD cs i 0) (a .end))
-          (idRow oc os oe) (idRow oc′ os′ oe′) h refl refl (r .on bc bs be m tb p) (o .adds) (omega (arith, w i, g i)) (o .further);
-    }
-
-pub resting-all : {room n i₀ k₀ c₀ e₀ i k c e : ℕ} {cs ss es oc₀ os₀ oe₀ oc os oe : List ℕ} → n ≤ i → Resting room cs ss es n i₀ oc₀ os₀ oe₀ k₀ c₀ e₀ i oc os oe k c e
-    → (bc bs be : List ℕ) (m : ℕ) → IdTable bc bs be m → United beyond (idRow cs ss es) n i₀ (idRow bc bs be) m m room (idRow oc₀ os₀ oe₀) k₀ (numberOf c₀ e₀)
-    → Holds room (idRow oc os oe) k (inner.combined inner.union (idRows cs ss es n) (idRows bc bs be m))
-resting-all h r bc bs be m tb p = rest-all h (r .on bc bs be m tb p)
+-- THE END
+pub merging-all : {room n i m j k c e : ℕ} {ac aS ae bc bs be oc os oe : List ℕ} → n + m ≤ i + j → Merging room ac aS ae n i bc bs be m j oc os oe k c e
+    → Holds room (idRow oc os oe) k (inner.combined inner.union (idRows ac aS ae n) (idRows bc bs be m))
+merging-all h z = rest-all (omega (arith, z .united .two .within)) (rest-right (omega (arith, z .united .one .within)) (z .united))
 
 -- ## The next row
 
-pub takes : (ac aS ae : List ℕ) (i : ℕ) (bc bs be : List ℕ) (j : ℕ) (t : Bool) (p q c x y : ℕ) → Says (numberOf (getD bc j 0) (getD bs j 0) < numberOf (getD ac i 0) (getD aS i 0)) t
-    → Picked t i (i + 1) p → Picked t (j + 1) j q → Picked t (getD bc j 0) (getD ac i 0) c → Picked t (getD bs j 0) (getD aS i 0) x → Picked t (getD be j 0) (getD ae i 0) y
-    → Takes ac aS ae i bc bs be j (record { i = p; j = q; client = c; start = x; end = y })
-takes ac aS ae i bc bs be j true p q c x y s a b d f g = right (a .yes′ refl) (b .yes′ refl) (d .yes′ refl) (f .yes′ refl) (g .yes′ refl) (omega (arith, s .right refl))
-takes ac aS ae i bc bs be j false p q c x y s a b d f g =
-    let n : numberOf (getD bc j 0) (getD bs j 0) < numberOf (getD ac i 0) (getD aS i 0) → ⊥ = s .wrong refl in
-    left (a .no′ refl) (b .no′ refl) (d .no′ refl) (f .no′ refl) (g .no′ refl) (omega arith)
+taken-is : {i i′ j j′ c c′ x x′ y y′ : ℕ} → i ≡ i′ → j ≡ j′ → c ≡ c′ → x ≡ x′ → y ≡ y′ → taken i j (record { client = c; start = x; end = y }) ≡ taken i′ j′ (record { client = c′; start = x′; end = y′ })
+taken-is p q c x y = λ v. record { i = p v; j = q v; client = c v; start = x v; end = y v }
+
+pub earlier : (i j : ℕ) (a b : Entry) (t : Bool) (p q c x y : ℕ) → Says (startOf b < startOf a) t
+    → Picked t i (i + 1) p → Picked t (j + 1) j q → Picked t (b .client) (a .client) c → Picked t (b .start) (a .start) x → Picked t (b .end) (a .end) y
+    → Earlier i j a b (record { i = p; j = q; client = c; start = x; end = y })
+earlier i j a b true p q c x y s k l d f g = second (taken-is (k .yes′ refl) (l .yes′ refl) (d .yes′ refl) (f .yes′ refl) (g .yes′ refl)) (omega (arith, s .right refl))
+earlier i j a b false p q c x y s k l d f g =
+    let n : startOf b < startOf a → ⊥ = s .wrong refl in
+    first (taken-is (k .no′ refl) (l .no′ refl) (d .no′ refl) (f .no′ refl) (g .no′ refl)) (omega arith)
+
+pub takes : {ac aS ae bc bs be : List ℕ} {n i m j : ℕ} {a b : Entry} {r : Taken} → i < n → j < m → a ≡ entryAt ac aS ae i → b ≡ entryAt bc bs be j → Earlier i j a b r → Takes ac aS ae n i bc bs be m j r
+takes {i = i} {j = j} h g p q (first e l) = left h (e ∙ ap (taken (i + 1) j) p) (λ _. subst₂ (λ (a b : Entry). startOf a ≤ startOf b) p q l)
+takes {i = i} {j = j} h g p q (second e l) = right g (e ∙ ap (taken i (j + 1)) q) (λ _. subst₂ (λ (b a : Entry). startOf b ≤ startOf a) q p l)

@@ -14,6 +14,7 @@ use Rattle.tables.specs.Inner.Rows.{span, combined}
 use Rattle.tables.specs.Inner.Sweep.{Holds}
 use Rattle.tables.specs.Inner.Edit.{Plain, range, Parted, starts, ends, Starting, Ending, Moved, Stands}
 use Rattle.tables.proofs.Joining.{split}
+use Rattle.tables.proofs.Spanning.{length-span, span-same}
 use Rattle.tables.proofs.Pushing.{piece, row-is}
 use Rattle.tables.proofs.Inserting.{inserted, range-one}
 use Rattle.tables.proofs.Placing.{laid-holds, laid-over}
@@ -47,17 +48,28 @@ copied-more {src} {out₀} {out} {from} {to} {i} c h =
 pub copied-all : {src out₀ out : List ℕ} {a b to i : ℕ} → Copied src a out₀ to i out → b - a ≤ i → Shifted src a b out₀ to out
 copied-all c h = record { below = c .before2; there = λ x l. c .there x (omega arith) }
 
+front-of : {src l l′ : List ℕ} {n : ℕ} → Shifted src 0 n l 0 l′ → (x : ℕ) → x < n → getD l′ x 0 ≡ getD src x 0
+front-of {src} {l} {l′} a x h = subst (λ (y : ℕ). getD l′ y 0 ≡ getD src y 0) (let z : 0 + x ≡ x = omega arith in z) (a .there x (omega arith))
+
+-- all rows copied, or too many for the room
+pub copied-rows : {room n : ℕ} {cs ss es oc os oe oc′ os′ oe′ : List ℕ} → n ≤ room → Shifted cs 0 n oc 0 oc′ → Shifted ss 0 n os 0 os′ → Shifted es 0 n oe 0 oe′ → Holds room (idRow oc′ os′ oe′) n (idRows cs ss es n)
+copied-rows {n = n} {cs} {ss} {es} {oc′ = oc′} {os′} {oe′} h p q r =
+    record {
+      kept = λ _. span-same (idRow oc′ os′ oe′) (idRow cs ss es) 0 n (λ j _ l. let m : j < n = omega arith in row-is (ap₂ numberOf (front-of p j m) (front-of q j m)) (ap₂ numberOf (front-of p j m) (front-of r j m)) refl);
+      over = λ l. absurd (omega arith);
+    }
+
+pub copied-over : {room n : ℕ} (cs ss es : List ℕ) {row : ℕ → inner.Row} → room < n → Holds room row n (idRows cs ss es n)
+copied-over {n = n} cs ss es h = record { kept = λ l. absurd (omega arith); over = λ _. omega (arith, length-span (idRow cs ss es) 0 n) }
+
 -- a front, one element, and a back
 pub spliced : {src out out₁ out₃ : List ℕ} {n i j v : ℕ} → Shifted src 0 i out 0 out₁ → i < length out₁ → Shifted src j n (set out₁ i v) (i + 1) out₃ → Spliced src n i j v out₃
 spliced {src} {out} {out₁} {out₃} {n} {i} {j} {v} a h b =
     record {
-      front = λ x l. b .below x (omega arith) ∙ (getD-set-other out₁ i x v 0 (omega arith) ∙ from x l);
+      front = λ x l. b .below x (omega arith) ∙ (getD-set-other out₁ i x v 0 (omega arith) ∙ front-of a x l);
       here = b .below i (omega arith) ∙ getD-set-same out₁ i v 0 h;
       back = b .there;
     }
-  where
-    from : (x : ℕ) → x < i → getD out₁ x 0 ≡ getD src x 0
-    from x l = subst (λ (y : ℕ). getD out₁ y 0 ≡ getD src y 0) (let z : 0 + x ≡ x = omega arith in z) (a .there x (omega arith))
 
 -- ## The row that is put in
 

@@ -12,6 +12,7 @@ use Rattle.tables.specs.declared.Made.{Made}
 use Rattle.tables.specs.declared.Made.the-variants as made
 use Rattle.tables.specs.Inner.Unite.{Last, Passed, Adds, United}
 use Rattle.varint.specs.declared.Refusal.the-variants.{Full}
+use Rattle.ids.specs.declared.Entry.{Entry}
 use Rattle.ids.specs.declared.Taken.{Taken}
 use Rattle.ids.specs.declared.Added.{Added}
 use Rattle.ids.specs.declared.Shared.{Shared}
@@ -82,12 +83,29 @@ pub record Further (lc le c y r : ℕ) : Type 0 where
   pub some : 1 ≤ r
   pub small : r ≤ 4294967296
 
--- of two rows the one that starts first is taken, the left one if both do
-pub data Takes (ac aS ae : List ℕ) (i : ℕ) (bc bs be : List ℕ) (j : ℕ) (r : Taken) : Type 0 where
-  left : r .i ≡ i + 1 → r .j ≡ j → r .client ≡ getD ac i 0 → r .start ≡ getD aS i 0 → r .end ≡ getD ae i 0
-      → numberOf (getD ac i 0) (getD aS i 0) ≤ numberOf (getD bc j 0) (getD bs j 0) → Takes ac aS ae i bc bs be j r
-  right : r .i ≡ i → r .j ≡ j + 1 → r .client ≡ getD bc j 0 → r .start ≡ getD bs j 0 → r .end ≡ getD be j 0
-      → numberOf (getD bc j 0) (getD bs j 0) ≤ numberOf (getD ac i 0) (getD aS i 0) → Takes ac aS ae i bc bs be j r
+-- row i of three slices, as it is stored
+abbrev pub entryAt : List ℕ → List ℕ → List ℕ → ℕ → Entry
+entryAt cs ss es i = record { client = getD cs i 0; start = getD ss i 0; end = getD es i 0 }
+
+-- a row, and the places behind it
+abbrev pub taken : ℕ → ℕ → Entry → Taken
+taken i j a = record { i = i; j = j; client = a .client; start = a .start; end = a .end }
+
+abbrev pub startOf : Entry → ℕ
+startOf a = numberOf (a .client) (a .start)
+
+abbrev pub endOf : Entry → ℕ
+endOf a = numberOf (a .client) (a .end)
+
+-- of two rows the one that starts first, the left one if both do
+pub data Earlier (i j : ℕ) (a b : Entry) (r : Taken) : Type 0 where
+  first : r ≡ taken (i + 1) j a → startOf a ≤ startOf b → Earlier i j a b r
+  second : r ≡ taken i (j + 1) b → startOf b ≤ startOf a → Earlier i j a b r
+
+-- the same of the rows i and j of two tables, where there are such rows
+pub data Takes (ac aS ae : List ℕ) (n i : ℕ) (bc bs be : List ℕ) (m j : ℕ) (r : Taken) : Type 0 where
+  left : i < n → r ≡ taken (i + 1) j (entryAt ac aS ae i) → (j < m → startOf (entryAt ac aS ae i) ≤ startOf (entryAt bc bs be j)) → Takes ac aS ae n i bc bs be m j r
+  right : j < m → r ≡ taken i (j + 1) (entryAt bc bs be j) → (i < n → startOf (entryAt bc bs be j) ≤ startOf (entryAt ac aS ae i)) → Takes ac aS ae n i bc bs be m j r
 
 -- the last of the k rows put out is of client c and ends at e - 1; with no row, both are 0
 pub record Open (room : ℕ) (oc os oe : List ℕ) (k c e : ℕ) : Type 0 where
@@ -107,13 +125,6 @@ pub record Merging (room : ℕ) (ac aS ae : List ℕ) (n i : ℕ) (bc bs be : Li
   pub opens : Open room oc os oe k c e
   pub one : i < n → c ≤ getD ac i 0
   pub two : j < m → c ≤ getD bc j 0
-
--- rows of one table are left, and of the other none
-pub record Tail (room : ℕ) (cs ss es : List ℕ) (n i : ℕ) (oc os oe : List ℕ) (k c e : ℕ) : Type 0 where
-  pub opens : Open room oc os oe k c e
-  pub within : i ≤ n
-  pub later : i < n → c ≤ getD cs i 0
-  pub few : k ≤ rowLimit + i
 
 -- ## An intersection or a difference, a row a step
 

@@ -1,24 +1,27 @@
 // Id tables: rows (client, start, end) in three lent slices, as desks hold and send them.
 ghost use mathlib.Core.Path.{_≡_};
-ghost use mathlib.Core.List.{List, _++_};
+ghost use mathlib.Core.List.{[], _∷_};
 ghost use Prim.Native.Nat.{ℕ, _+_, _-_, _*_, _≤_, _<_, min};
-ghost use lib.ListN.{length, getD, take, replicate};
+ghost use lib.ListN.{length};
 ghost use Rattle.tables.specs.Answers.{Says};
 ghost use Rattle.tables.specs.Limits.{rowLimit};
 ghost use Rattle.tables.specs.Inner.Rows.{at, span, combined, union, difference, intersection};
 ghost use Rattle.tables.specs.Inner.Differ.{GapStart, GapEnd};
 ghost use Rattle.tables.specs.Inner.Edit.{Parted};
 ghost use Rattle.tables.specs.Inner.Sweep.{Holds};
-ghost use Rattle.tables.specs.Inner.Unite.{Counted as Counts, United};
+ghost use Rattle.tables.specs.Inner.Unite.{Counted as Counts};
 ghost use Rattle.ids.specs.Rows.{row};
-ghost use Rattle.ids.specs.Tables.{three, held, room, rowsOf, filled, Captured, Merged, Diffed, Intersected, Inserted, Contains, Empty, Clients, Len};
-ghost use Rattle.ids.specs.Inner.{numberOf, idRow, NoneEmpty, Apart, idRows, IdTable, Checked, Both, Finished, beyond, Picked, Stored, Further, Takes, Open, Joins, Merging, Tail, final, Shares, Puts, Fresh, marks, Leads, Trails, Shifted, Spliced};
+ghost use Rattle.ids.specs.Tables.{three, held, room, most, rowsOf, filled, Captured, Merged, Diffed, Intersected, Inserted, Contains, Empty, Clients, Len};
+ghost use Rattle.ids.specs.Inner.{numberOf, idRow, NoneEmpty, Apart, idRows, IdTable, Checked, Both, Finished, Picked, Stored, Further, entryAt, startOf, endOf, Earlier, Takes, Open, Joins, final, Shares, Puts, Fresh, marks, Leads, Trails, Shifted, Spliced};
 
-// Whether the id (c, x) comes before the id (d, y).
+// Whether the id (c, x) comes before the id (d, y). Most are of one client, so that the jump is foreseen.
 fn precedes(c: u64, x: u32, d: u64, y: u32) -> bool
     ensures { λ r. ⌜ Says (numberOf c x < numberOf d y) r ⌝ }
 {
-    (c < d) | ((c == d) & (x < y))
+    if c == d {
+        return x < y;
+    }
+    c < d
 }
 
 fn least(x: usize, y: usize) -> usize
@@ -89,30 +92,22 @@ fn both_formed(
     well_formed(clients, starts, ends, count) & well_formed(b_clients, b_starts, b_ends, b_count)
 }
 
-// The first `n` elements of `src`, and zeros behind them.
-fn copy_wide(src: &[u64], n: usize, out: &mut [u64])
-    requires { ⌜ (n ≤ length (now src)) × (n ≤ length (now out)) ⌝ }
-    ensures { λ r. ⌜ now (out .exit) ≡ take n (now (src .entry)) ++ replicate (length (now (out .entry)) - n) 0 ⌝ }
+fn pick(t: bool, x: u32, y: u32) -> u32
+    ensures { λ r. ⌜ Picked t x y r ⌝ }
 {
-    let mut i: usize = 0;
-    while i < n {
-        out[i] = src[i];
-        i += 1;
-    }
-    tables::zero_wide(&mut out[n..]);
+    if t { x } else { y }
 }
 
-// The first `n` elements of `src`, and zeros behind them.
-fn copy(src: &[u32], n: usize, out: &mut [u32])
-    requires { ⌜ (n ≤ length (now src)) × (n ≤ length (now out)) ⌝ }
-    ensures { λ r. ⌜ now (out .exit) ≡ take n (now (src .entry)) ++ replicate (length (now (out .entry)) - n) 0 ⌝ }
+fn pick_wide(t: bool, x: u64, y: u64) -> u64
+    ensures { λ r. ⌜ Picked t x y r ⌝ }
 {
-    let mut i: usize = 0;
-    while i < n {
-        out[i] = src[i];
-        i += 1;
-    }
-    tables::zero(&mut out[n..]);
+    if t { x } else { y }
+}
+
+fn pick_place(t: bool, x: usize, y: usize) -> usize
+    ensures { λ r. ⌜ Picked t x y r ⌝ }
+{
+    if t { x } else { y }
 }
 
 // The first `k` rows stay, and every later element becomes zero.
@@ -125,6 +120,77 @@ fn trim(to_clients: &mut [u64], to_starts: &mut [u32], to_ends: &mut [u32], k: u
     tables::zero_wide(&mut to_clients[k..]);
     tables::zero(&mut to_starts[k..]);
     tables::zero(&mut to_ends[k..]);
+}
+
+// Zero behind the `k` rows that were put out, or everywhere if there is no room for them.
+fn finish(
+    to_clients: &mut [u64],
+    to_starts: &mut [u32],
+    to_ends: &mut [u32],
+    most: usize,
+    k: usize,
+) -> tables::Made
+    requires { ⌜ most ≤ room (three (now «to_clients») (now «to_starts») (now «to_ends»)) ⌝ }
+    ensures { λ r. ⌜ Finished most k (three (now («to_clients» .entry)) (now («to_starts» .entry)) (now («to_ends» .entry)))
+        (three (now («to_clients» .exit)) (now («to_starts» .exit)) (now («to_ends» .exit))) r ⌝ }
+{
+    let full = most < k;
+    let kept = pick_place(full, 0, k);
+    trim(to_clients, to_starts, to_ends, kept);
+    if full {
+        return tables::Made::Refused(varint::Refusal::Full);
+    }
+    tables::Made::Rows(k)
+}
+
+// The elements `a` to `b` of `src`, copied to element `to` on.
+fn shift(src: &[u32], a: usize, b: usize, out: &mut [u32], to: usize)
+    requires { ⌜ (a ≤ b) × (b ≤ length (now src)) × (to + (b - a) ≤ length (now out)) ⌝ }
+    ensures { λ r. ⌜ Shifted (now (src .entry)) a b (now (out .entry)) to (now (out .exit)) ⌝ }
+{
+    let len = b - a;
+    let mut i: usize = 0;
+    while i < len {
+        out[to + i] = src[a + i];
+        i += 1;
+    }
+}
+
+// The elements `a` to `b` of `src`, copied to element `to` on.
+fn shift_wide(src: &[u64], a: usize, b: usize, out: &mut [u64], to: usize)
+    requires { ⌜ (a ≤ b) × (b ≤ length (now src)) × (to + (b - a) ≤ length (now out)) ⌝ }
+    ensures { λ r. ⌜ Shifted (now (src .entry)) a b (now (out .entry)) to (now (out .exit)) ⌝ }
+{
+    let len = b - a;
+    let mut i: usize = 0;
+    while i < len {
+        out[to + i] = src[a + i];
+        i += 1;
+    }
+}
+
+// The first `n` rows, if there is room for them, and how many there are.
+fn copy_rows(
+    clients: &[u64],
+    starts: &[u32],
+    ends: &[u32],
+    n: usize,
+    to_clients: &mut [u64],
+    to_starts: &mut [u32],
+    to_ends: &mut [u32],
+    most: usize,
+) -> usize
+    requires { ⌜ (n ≤ room (three (now clients) (now starts) (now ends))) × (most ≤ room (three (now «to_clients») (now «to_starts») (now «to_ends»))) ⌝ }
+    ensures { λ r. ⌜ Holds most (idRow (now («to_clients» .exit)) (now («to_starts» .exit)) (now («to_ends» .exit))) r
+        (idRows (now (clients .entry)) (now (starts .entry)) (now (ends .entry)) n) ⌝ }
+{
+    if most < n {
+        return n;
+    }
+    shift_wide(clients, 0, n, to_clients, 0);
+    shift(starts, 0, n, to_starts, 0);
+    shift(ends, 0, n, to_ends, 0);
+    n
 }
 
 // An unchanged copy of a table.
@@ -145,52 +211,36 @@ pub fn capture(
         trim(to_clients, to_starts, to_ends, 0);
         return tables::Made::Refused(varint::Refusal::Malformed);
     }
-    if most_rows(to_clients.len(), to_starts.len(), to_ends.len()) < count {
-        trim(to_clients, to_starts, to_ends, 0);
-        return tables::Made::Refused(varint::Refusal::Full);
+    let most = most_rows(to_clients.len(), to_starts.len(), to_ends.len());
+    let k = copy_rows(
+        clients,
+        starts,
+        ends,
+        count,
+        to_clients,
+        to_starts,
+        to_ends,
+        most,
+    );
+    finish(to_clients, to_starts, to_ends, most, k)
+}
+
+// A row of a table.
+pub struct Entry {
+    pub client: u64,
+    pub start: u32,
+    pub end: u32,
+}
+
+fn row_at(clients: &[u64], starts: &[u32], ends: &[u32], i: usize) -> Entry
+    requires { ⌜ i < room (three (now clients) (now starts) (now ends)) ⌝ }
+    ensures { λ r. ⌜ r ≡ entryAt (now (clients .entry)) (now (starts .entry)) (now (ends .entry)) i ⌝ }
+{
+    Entry {
+        client: clients[i],
+        start: starts[i],
+        end: ends[i],
     }
-    copy_wide(clients, count, to_clients);
-    copy(starts, count, to_starts);
-    copy(ends, count, to_ends);
-    tables::Made::Rows(count)
-}
-
-// Zero behind the `k` rows that were put out, or everywhere if there is no room for them.
-fn finish(
-    to_clients: &mut [u64],
-    to_starts: &mut [u32],
-    to_ends: &mut [u32],
-    most: usize,
-    k: usize,
-) -> tables::Made
-    requires { ⌜ most ≤ room (three (now «to_clients») (now «to_starts») (now «to_ends»)) ⌝ }
-    ensures { λ r. ⌜ Finished most k (three (now («to_clients» .entry)) (now («to_starts» .entry)) (now («to_ends» .entry)))
-        (three (now («to_clients» .exit)) (now («to_starts» .exit)) (now («to_ends» .exit))) r ⌝ }
-{
-    if most < k {
-        trim(to_clients, to_starts, to_ends, 0);
-        return tables::Made::Refused(varint::Refusal::Full);
-    }
-    trim(to_clients, to_starts, to_ends, k);
-    tables::Made::Rows(k)
-}
-
-fn pick(t: bool, x: u32, y: u32) -> u32
-    ensures { λ r. ⌜ Picked t x y r ⌝ }
-{
-    if t { x } else { y }
-}
-
-fn pick_wide(t: bool, x: u64, y: u64) -> u64
-    ensures { λ r. ⌜ Picked t x y r ⌝ }
-{
-    if t { x } else { y }
-}
-
-fn pick_place(t: bool, x: usize, y: usize) -> usize
-    ensures { λ r. ⌜ Picked t x y r ⌝ }
-{
-    if t { x } else { y }
 }
 
 // The next row of two tables, and the places behind it.
@@ -202,32 +252,61 @@ pub struct Taken {
     pub end: u32,
 }
 
-// Of the rows `i` and `j` the one that starts first: everything is read, and then picked without a branch.
+// Of the rows `i` and `j` the one that starts first, picked without a branch.
+fn earlier(i: usize, j: usize, a: Entry, b: Entry) -> Taken
+    requires { ⌜ (i < rowLimit) × (j < rowLimit) ⌝ }
+    ensures { λ r. ⌜ Earlier i j a b r ⌝ }
+{
+    let second = precedes(b.client, b.start, a.client, a.start);
+    Taken {
+        i: pick_place(second, i, i + 1),
+        j: pick_place(second, j + 1, j),
+        client: pick_wide(second, b.client, a.client),
+        start: pick(second, b.start, a.start),
+        end: pick(second, b.end, a.end),
+    }
+}
+
+// Of the rows from `i` on and those from `j` on, the one that starts first.
 fn next(
     clients: &[u64],
     starts: &[u32],
     ends: &[u32],
+    n: usize,
     i: usize,
     b_clients: &[u64],
     b_starts: &[u32],
     b_ends: &[u32],
+    m: usize,
     j: usize,
 ) -> Taken
-    requires { ⌜ (i < room (three (now clients) (now starts) (now ends))) × (j < room (three (now «b_clients») (now «b_starts») (now «b_ends»))) ⌝ }
-    ensures { λ r. ⌜ Takes (now (clients .entry)) (now (starts .entry)) (now (ends .entry)) i (now («b_clients» .entry)) (now («b_starts» .entry)) (now («b_ends» .entry)) j r ⌝ }
+    requires { ⌜ (n ≤ most (three (now clients) (now starts) (now ends))) × (m ≤ most (three (now «b_clients») (now «b_starts») (now «b_ends»))) ⌝ }
+    requires { ⌜ (i ≤ n) × (j ≤ m) × (i + j < n + m) ⌝ }
+    ensures { λ r. ⌜ Takes (now (clients .entry)) (now (starts .entry)) (now (ends .entry)) n i (now («b_clients» .entry)) (now («b_starts» .entry)) (now («b_ends» .entry)) m j r ⌝ }
 {
-    let c = clients[i];
-    let d = b_clients[j];
-    let x = starts[i];
-    let y = b_starts[j];
-    let second = precedes(d, y, c, x);
-    Taken {
-        i: pick_place(second, i, i + 1),
-        j: pick_place(second, j + 1, j),
-        client: pick_wide(second, d, c),
-        start: pick(second, y, x),
-        end: pick(second, b_ends[j], ends[i]),
+    if m <= j {
+        let a = row_at(clients, starts, ends, i);
+        return Taken {
+            i: i + 1,
+            j,
+            client: a.client,
+            start: a.start,
+            end: a.end,
+        };
     }
+    if n <= i {
+        let b = row_at(b_clients, b_starts, b_ends, j);
+        return Taken {
+            i,
+            j: j + 1,
+            client: b.client,
+            start: b.start,
+            end: b.end,
+        };
+    }
+    let a = row_at(clients, starts, ends, i);
+    let b = row_at(b_clients, b_starts, b_ends, j);
+    earlier(i, j, a, b)
 }
 
 fn store(out: &mut [u32], most: usize, k: usize, v: u32)
@@ -306,56 +385,6 @@ fn join(
     Added { k: r, end: f }
 }
 
-// The rows from `i0` on, where the other table has none left: whatever that was.
-fn rest(
-    clients: &[u64],
-    starts: &[u32],
-    ends: &[u32],
-    n: usize,
-    i0: usize,
-    to_clients: &mut [u64],
-    to_starts: &mut [u32],
-    to_ends: &mut [u32],
-    most: usize,
-    k0: usize,
-    c0: u64,
-    e0: u64,
-) -> usize
-    requires { ⌜ IdTable (now clients) (now starts) (now ends) n ⌝ }
-    requires { ⌜ most ≤ room (three (now «to_clients») (now «to_starts») (now «to_ends»)) ⌝ }
-    requires { ⌜ Tail most (now clients) (now starts) (now ends) n i0 (now «to_clients») (now «to_starts») (now «to_ends») k0 c0 e0 ⌝ }
-    ensures { λ r. ⌜ ((bc bs be : List ℕ) (m : ℕ) → IdTable bc bs be m
-        → United beyond (idRow (now (clients .entry)) (now (starts .entry)) (now (ends .entry))) n i0 (idRow bc bs be) m m most
-        (idRow (now («to_clients» .entry)) (now («to_starts» .entry)) (now («to_ends» .entry))) k0 (numberOf c0 e0)
-        → Holds most (idRow (now («to_clients» .exit)) (now («to_starts» .exit)) (now («to_ends» .exit))) r
-        (combined union (idRows (now (clients .entry)) (now (starts .entry)) (now (ends .entry)) n) (idRows bc bs be m))) ⌝ }
-{
-    let mut i = i0;
-    let mut k = k0;
-    let mut c = c0;
-    let mut e = e0;
-    while i < n {
-        let d = clients[i];
-        let a = join(
-            to_clients,
-            to_starts,
-            to_ends,
-            most,
-            k,
-            c,
-            e,
-            d,
-            starts[i],
-            ends[i],
-        );
-        i += 1;
-        k = a.k;
-        e = a.end;
-        c = d;
-    }
-    k
-}
-
 // The rows of the union of two tables, as many as there is room for, and how many there are.
 fn unite(
     clients: &[u64],
@@ -383,24 +412,19 @@ fn unite(
     let mut k: usize = 0;
     let mut c: u64 = 0;
     let mut e: u64 = 0;
-    while i < n {
-        if m <= j {
-            return rest(
-                clients,
-                starts,
-                ends,
-                n,
-                i,
-                to_clients,
-                to_starts,
-                to_ends,
-                most,
-                k,
-                c,
-                e,
-            );
-        }
-        let t = next(clients, starts, ends, i, b_clients, b_starts, b_ends, j);
+    while i + j < n + m {
+        let t = next(
+            clients,
+            starts,
+            ends,
+            n,
+            i,
+            b_clients,
+            b_starts,
+            b_ends,
+            m,
+            j,
+        );
         let a = join(
             to_clients,
             to_starts,
@@ -419,20 +443,7 @@ fn unite(
         e = a.end;
         c = t.client;
     }
-    rest(
-        b_clients,
-        b_starts,
-        b_ends,
-        m,
-        j,
-        to_clients,
-        to_starts,
-        to_ends,
-        most,
-        k,
-        c,
-        e,
-    )
+    k
 }
 
 // The union of two tables.
@@ -494,26 +505,83 @@ pub struct Shared {
     pub on: bool,
 }
 
+// A place among all ids: clients first, then clocks.
+pub struct Spot {
+    pub client: u64,
+    pub clock: u32,
+}
+
+// What the row x..e shares with g..h, all of one client.
+fn share_near(i: usize, j: usize, x: u32, e: u32, g: u32, h: u32) -> Shared
+    requires { ⌜ (i ≤ rowLimit) × (j ≤ rowLimit) ⌝ }
+    ensures { λ r. ⌜ ((c : ℕ) → Shares (numberOf c x) (numberOf c g) (numberOf c e) (numberOf c h) i j c r) ⌝ }
+{
+    let late = x < g;
+    let early = h < e;
+    let sooner = e < h;
+    let start = pick(late, g, x);
+    let end = pick(early, h, e);
+    Shared {
+        i: pick_place(early, i, i + 1),
+        j: pick_place(sooner, j, j + 1),
+        start,
+        end,
+        on: start < end,
+    }
+}
+
 // What the row (c, x, e) shares with the places from (gc, gx) on that are before (hc, hx). What is shared is of client `c`.
-fn share(i: usize, j: usize, c: u64, x: u32, e: u32, gc: u64, gx: u32, hc: u64, hx: u32) -> Shared
+fn share_far(
+    i: usize,
+    j: usize,
+    c: u64,
+    x: u32,
+    e: u32,
+    gc: u64,
+    gx: u32,
+    hc: u64,
+    hx: u32,
+) -> Shared
     requires { ⌜ (i ≤ rowLimit) × (j ≤ rowLimit) ⌝ }
     ensures { λ r. ⌜ Shares (numberOf c x) (numberOf gc gx) (numberOf c e) (numberOf hc hx) i j c r ⌝ }
 {
     let late = precedes(c, x, gc, gx);
     let early = precedes(hc, hx, c, e);
     let sooner = precedes(c, e, hc, hx);
-    let start = pick(late, gx, x);
-    let end = pick(early, hx, e);
+    let begun = precedes(c, x, hc, hx);
+    let ahead = precedes(gc, gx, c, e);
+    let some = precedes(gc, gx, hc, hx);
     Shared {
         i: pick_place(early, i, i + 1),
         j: pick_place(sooner, j, j + 1),
-        start,
-        end,
-        on: precedes(pick_wide(late, gc, c), start, pick_wide(early, hc, c), end),
+        start: pick(late, gx, x),
+        end: pick(early, hx, e),
+        on: (x < e) & begun & ahead & some,
     }
 }
 
-// The row (c, x, y), which is counted if `on`, and else written over.
+// What the row `a` shares with the places from `g` on that are before `h`. Most are of the row's client.
+fn share(i: usize, j: usize, a: Entry, g: Spot, h: Spot) -> Shared
+    requires { ⌜ (i ≤ rowLimit) × (j ≤ rowLimit) ⌝ }
+    ensures { λ r. ⌜ Shares (startOf a) (numberOf (g .client) (g .clock)) (endOf a) (numberOf (h .client) (h .clock)) i j (a .client) r ⌝ }
+{
+    if (g.client == a.client) & (h.client == a.client) {
+        return share_near(i, j, a.start, a.end, g.clock, h.clock);
+    }
+    share_far(
+        i,
+        j,
+        a.client,
+        a.start,
+        a.end,
+        g.client,
+        g.clock,
+        h.client,
+        h.clock,
+    )
+}
+
+// What is shared, which is counted if it is `on`, and else written over.
 fn keep(
     to_clients: &mut [u64],
     to_starts: &mut [u32],
@@ -521,19 +589,17 @@ fn keep(
     most: usize,
     k: usize,
     c: u64,
-    x: u32,
-    y: u32,
-    on: bool,
+    t: Shared,
 ) -> usize
     requires { ⌜ most ≤ room (three (now «to_clients») (now «to_starts») (now «to_ends»)) ⌝ }
     requires { ⌜ k ≤ 2 * rowLimit ⌝ }
-    ensures { λ r. ⌜ Puts most (now («to_clients» .entry)) (now («to_starts» .entry)) (now («to_ends» .entry)) k c x y on
+    ensures { λ r. ⌜ Puts most (now («to_clients» .entry)) (now («to_starts» .entry)) (now («to_ends» .entry)) k c (t .start) (t .end) (t .on)
         (now («to_clients» .exit)) (now («to_starts» .exit)) (now («to_ends» .exit)) r ⌝ }
 {
     store_wide(to_clients, most, k, c);
-    store(to_starts, most, k, x);
-    store(to_ends, most, k, y);
-    pick_place(on, k + 1, k)
+    store(to_starts, most, k, t.start);
+    store(to_ends, most, k, t.end);
+    pick_place(t.on, k + 1, k)
 }
 
 // The rows of the intersection of two tables, as many as there is room for, and how many there are.
@@ -565,30 +631,22 @@ fn cross(
         if m <= j {
             return k;
         }
-        let c = clients[i];
-        let d = b_clients[j];
-        let t = share(i, j, c, starts[i], ends[i], d, b_starts[j], d, b_ends[j]);
-        k = keep(
-            to_clients,
-            to_starts,
-            to_ends,
-            most,
-            k,
-            c,
-            t.start,
-            t.end,
-            t.on,
-        );
+        let a = row_at(clients, starts, ends, i);
+        let b = row_at(b_clients, b_starts, b_ends, j);
+        let g = Spot {
+            client: b.client,
+            clock: b.start,
+        };
+        let h = Spot {
+            client: b.client,
+            clock: b.end,
+        };
+        let t = share(i, j, a, g, h);
+        k = keep(to_clients, to_starts, to_ends, most, k, a.client, t);
         i = t.i;
         j = t.j;
     }
     k
-}
-
-// A place among all ids: clients first, then clocks.
-pub struct Spot {
-    pub client: u64,
-    pub clock: u32,
 }
 
 // Where gap `j` of a table starts: gap 0 at the first place, any other behind the row before it.
@@ -651,31 +709,11 @@ fn differ(
     let mut j: usize = 0;
     let mut k: usize = 0;
     while i < n {
-        let c = clients[i];
+        let a = row_at(clients, starts, ends, i);
         let g = gap_start(b_clients, b_starts, b_ends, j);
         let h = gap_end(b_clients, b_starts, b_ends, m, j);
-        let t = share(
-            i,
-            j,
-            c,
-            starts[i],
-            ends[i],
-            g.client,
-            g.clock,
-            h.client,
-            h.clock,
-        );
-        k = keep(
-            to_clients,
-            to_starts,
-            to_ends,
-            most,
-            k,
-            c,
-            t.start,
-            t.end,
-            t.on,
-        );
+        let t = share(i, j, a, g, h);
+        k = keep(to_clients, to_starts, to_ends, most, k, a.client, t);
         i = t.i;
         j = t.j;
     }
@@ -833,32 +871,6 @@ fn trail(clients: &[u64], ends: &[u32], j: usize, c: u64, e: u32) -> u32
     e
 }
 
-// The elements `a` to `b` of `src`, copied to element `to` on.
-fn shift(src: &[u32], a: usize, b: usize, out: &mut [u32], to: usize)
-    requires { ⌜ (a ≤ b) × (b ≤ length (now src)) × (to + (b - a) ≤ length (now out)) ⌝ }
-    ensures { λ r. ⌜ Shifted (now (src .entry)) a b (now (out .entry)) to (now (out .exit)) ⌝ }
-{
-    let len = b - a;
-    let mut i: usize = 0;
-    while i < len {
-        out[to + i] = src[a + i];
-        i += 1;
-    }
-}
-
-// The elements `a` to `b` of `src`, copied to element `to` on.
-fn shift_wide(src: &[u64], a: usize, b: usize, out: &mut [u64], to: usize)
-    requires { ⌜ (a ≤ b) × (b ≤ length (now src)) × (to + (b - a) ≤ length (now out)) ⌝ }
-    ensures { λ r. ⌜ Shifted (now (src .entry)) a b (now (out .entry)) to (now (out .exit)) ⌝ }
-{
-    let len = b - a;
-    let mut i: usize = 0;
-    while i < len {
-        out[to + i] = src[a + i];
-        i += 1;
-    }
-}
-
 // The elements before `i`, then `v`, then the elements from `j` on.
 fn splice(src: &[u32], n: usize, i: usize, j: usize, v: u32, out: &mut [u32])
     requires { ⌜ (i ≤ j) × (j ≤ n) × (n ≤ length (now src)) × (i + 1 + (n - j) ≤ length (now out)) ⌝ }
@@ -877,6 +889,40 @@ fn splice_wide(src: &[u64], n: usize, i: usize, j: usize, v: u64, out: &mut [u64
     shift_wide(src, 0, i, out, 0);
     out[i] = v;
     shift_wide(src, j, n, out, i + 1);
+}
+
+// The rows with one range more, if there is room for them, and how many there are.
+fn put_in(
+    clients: &[u64],
+    starts: &[u32],
+    ends: &[u32],
+    n: usize,
+    c: u64,
+    s: u32,
+    e: u32,
+    to_clients: &mut [u64],
+    to_starts: &mut [u32],
+    to_ends: &mut [u32],
+    most: usize,
+) -> usize
+    requires { ⌜ IdTable (now clients) (now starts) (now ends) n ⌝ }
+    requires { ⌜ s < e ⌝ }
+    requires { ⌜ most ≤ room (three (now «to_clients») (now «to_starts») (now «to_ends»)) ⌝ }
+    ensures { λ r. ⌜ Holds most (idRow (now («to_clients» .exit)) (now («to_starts» .exit)) (now («to_ends» .exit))) r
+        (combined union (idRows (now (clients .entry)) (now (starts .entry)) (now (ends .entry)) n) (idRows (c ∷ []) (s ∷ []) (e ∷ []) 1)) ⌝ }
+{
+    let i = below(clients, ends, n, 0, c, s as u64);
+    let j = below(clients, starts, n, i, c, e as u64 + 1);
+    let x = lead(clients, starts, n, i, c, s);
+    let y = trail(clients, ends, j, c, e);
+    let k = i + 1 + (n - j);
+    if most < k {
+        return k;
+    }
+    splice_wide(clients, n, i, j, c, to_clients);
+    splice(starts, n, i, j, x, to_starts);
+    splice(ends, n, i, j, y, to_ends);
+    k
 }
 
 // One range more; an empty range adds no row.
@@ -907,18 +953,20 @@ pub fn insert_range(
         trim(to_clients, to_starts, to_ends, 0);
         return tables::Made::Refused(varint::Refusal::Malformed);
     }
-    let i = below(clients, ends, count, 0, c, s as u64);
-    let j = below(clients, starts, count, i, c, e as u64 + 1);
-    let x = lead(clients, starts, count, i, c, s);
-    let y = trail(clients, ends, j, c, e);
     let most = most_rows(to_clients.len(), to_starts.len(), to_ends.len());
-    let k = i + 1 + (count - j);
-    if most < k {
-        return finish(to_clients, to_starts, to_ends, most, k);
-    }
-    splice_wide(clients, count, i, j, c, to_clients);
-    splice(starts, count, i, j, x, to_starts);
-    splice(ends, count, i, j, y, to_ends);
+    let k = put_in(
+        clients,
+        starts,
+        ends,
+        count,
+        c,
+        s,
+        e,
+        to_clients,
+        to_starts,
+        to_ends,
+        most,
+    );
     finish(to_clients, to_starts, to_ends, most, k)
 }
 

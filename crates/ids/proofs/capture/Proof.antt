@@ -1,17 +1,15 @@
--- The three ways out are the three answers. Assumes nothing.
+-- Malformed, full or copied. Assumes nothing.
 use native.Mathlib.Omega.{arith}
-use mathlib.Core.Path.{_≡_}
 use borrow.Author.Tests.{not-true, not-false}
-use Rattle.ids.specs.Tables.{Slices, Held, held, three}
-use Rattle.ids.proofs.Numbering.{fit, filled-columns}
-use Rattle.ids.proofs.Answering.{writes-malformed, captured-full, captured-rows}
+use Rattle.ids.specs.Tables.{three}
+use Rattle.ids.proofs.Answering.{writes-malformed, Alike, captured-of}
 use borrow.Author.Needs.{needs}
 use Rattle.ids.proofs.capture.Statement.{statement}
 use Rattle.ids.proofs.capture.Tie as tie
 use Rattle.ids.proofs.capture.Reads as reads
 use Rattle.ids.proofs.capture.Lts as lts
-use Rattle.ids.proofs.copy.Reads as copy-reads
-use Rattle.ids.proofs.copy_wide.Reads as copy-wide-reads
+use Rattle.ids.proofs.copy_rows.Reads as copy-rows-reads
+use Rattle.ids.proofs.finish.Reads as finish-reads
 use Rattle.ids.proofs.most_rows.Reads as most-rows-reads
 use Rattle.ids.proofs.trim.Reads as trim-reads
 use Rattle.ids.proofs.well_formed.Reads as well-formed-reads
@@ -32,13 +30,16 @@ same-length-3 : tie.Need-same-length-3
 same-length-3 c = search needs
 
 returns : tie.Need-returns
-returns c = writes-malformed (three (c .before .before .before .before .before .before .before .before .before .before .before .before .before .before .before .before .before .before .args .to-clients .now) (c .before .before .before .before .before .before .before .before .before .before .before .before .before .before .before .before .before .before .args .to-starts .now) (c .before .before .before .before .before .before .before .before .before .before .before .before .before .before .before .before .before .before .args .to-ends .now)) (c .before .before .before .before .before .before .before .before .before .before .before .well-formed .ensures .says .wrong (not-true _ (c .before .before .before .before .before .before .before .before .before .before .if1 .taken))) (c .before .before .before .before .before .before .trim .ensures)
+returns c = let a = c .before .before .before .before .before .before .before .before .before .before .before .before .before .before .before .before .before .before .args in writes-malformed (three (a .to-clients .now) (a .to-starts .now) (a .to-ends .now)) (c .before .before .before .before .before .before .before .before .before .before .before .well-formed .ensures .says .wrong (not-true _ (c .before .before .before .before .before .before .before .before .before .before .if1 .taken))) (c .before .before .before .before .before .before .trim .ensures)
 
 most-rows-requires : tie.Need-most-rows-requires
 most-rows-requires c κs = search needs
 
-trim-requires-2 : tie.Need-trim-requires-2
-trim-requires-2 c κs = search needs
+copy-rows-requires : tie.Need-copy-rows-requires
+copy-rows-requires c κs = (omega (arith, c .before .before .before .before .before .well-formed .ensures .table (not-false _ (c .before .before .before .before .if1 .left)) .few), omega (arith, c .before .before .before .most-rows .ensures))
+
+finish-requires : tie.Need-finish-requires
+finish-requires c κs = let l = c .before .before .before .before .before .before .before .before .before .copy-rows .kept in omega (arith, c .before .before .before .before .before .before .before .before .before .before .before .before .before .most-rows .ensures, l .1 .1 .1 .1 .0, l .1 .1 .1 .1 .1 .0, l .1 .1 .1 .1 .1 .1 .0)
 
 same-length-4 : tie.Need-same-length-4
 same-length-4 c = search needs
@@ -50,31 +51,9 @@ same-length-6 : tie.Need-same-length-6
 same-length-6 c = search needs
 
 returns-2 : tie.Need-returns-2
-returns-2 c = captured-full (held (c .before .before .before .before .before .before .before .before .before .before .before .before .before .before .before .before .before .before .before .before .args .clients .now) (c .before .before .before .before .before .before .before .before .before .before .before .before .before .before .before .before .before .before .before .before .args .starts .now) (c .before .before .before .before .before .before .before .before .before .before .before .before .before .before .before .before .before .before .before .before .args .ends .now) (c .before .before .before .before .before .before .before .before .before .before .before .before .before .before .before .before .before .before .before .before .args .count)) (three (c .before .before .before .before .before .before .before .before .before .before .before .before .before .before .before .before .before .before .before .before .args .to-clients .now) (c .before .before .before .before .before .before .before .before .before .before .before .before .before .before .before .before .before .before .before .before .args .to-starts .now) (c .before .before .before .before .before .before .before .before .before .before .before .before .before .before .before .before .before .before .before .before .args .to-ends .now)) _ (c .before .before .before .before .before .before .before .before .before .before .before .before .before .well-formed .ensures .says .right (not-false _ (c .before .before .before .before .before .before .before .before .before .before .before .before .if1 .left))) (omega arith) (c .before .before .before .before .before .before .trim2 .ensures)
-
-copy-wide-requires : tie.Need-copy-wide-requires
-copy-wide-requires c κs = omega (arith, c .before .before .before .before .well-formed .ensures .table (not-false _ (c .before .before .before .if1 .left)) .few)
-
-copy-requires : tie.Need-copy-requires
-copy-requires c κs = omega (arith, c .before .before .before .before .before .before .before .before .well-formed .ensures .table (not-false _ (c .before .before .before .before .before .before .before .if1 .left)) .few)
-
-copy-requires-2 : tie.Need-copy-requires-2
-copy-requires-2 c κs = omega (arith, c .before .before .before .before .before .before .before .before .before .before .before .before .well-formed .ensures .table (not-false _ (c .before .before .before .before .before .before .before .before .before .before .before .if1 .left)) .few)
-
-same-length-7 : tie.Need-same-length-7
-same-length-7 c = search needs
-
-same-length-8 : tie.Need-same-length-8
-same-length-8 c = search needs
-
-same-length-9 : tie.Need-same-length-9
-same-length-9 c = search needs
-
-returns-3 : tie.Need-returns-3
-returns-3 c = let a = c .before .before .before .before .before .before .before .before .before .before .before .before .before .before .before .before .before .before .before .before .before .before .args in
-    captured-rows (held (a .clients .now) (a .starts .now) (a .ends .now) (a .count)) (three (a .to-clients .now) (a .to-starts .now) (a .to-ends .now)) _ (c .before .before .before .before .before .before .before .before .before .before .before .before .before .before .before .well-formed .ensures .says .right (not-false _ (c .before .before .before .before .before .before .before .before .before .before .before .before .before .before .if1 .left))) (omega arith)
-    (filled-columns (a .count) (a .clients .now) (a .starts .now) (a .ends .now) (a .to-clients .now) (a .to-starts .now) (a .to-ends .now) _ _ _ (fit _ _ _ _ (omega (arith, c .before .before .before .before .before .before .before .before .before .before .before .before .before .before .before .well-formed .ensures .table (not-false _ (c .before .before .before .before .before .before .before .before .before .before .before .before .before .before .if1 .left)) .few)))
-    (c .before .before .before .before .before .before .before .before .before .before .copy-wide .ensures) (c .before .before .before .before .before .before .copy .ensures) (c .before .before .copy2 .ensures))
+returns-2 c = let a = c .before .before .before .before .before .before .before .before .before .before .before .before .before .before .before .before .before .before .before .before .before .before .before .before .before .before .before .before .before .args in let l = c .before .before .before .before .before .before .before .before .before .before .before .before .before .before .before .before .copy-rows .kept .1 .1 .1 .1 in
+    captured-of (a .clients .now) (a .starts .now) (a .ends .now) (c .before .before .before .before .before .before .before .before .before .before .before .before .before .before .before .before .before .before .before .before .before .before .before .before .before .before .before .shared-slice-known2 .given) (c .before .before .before .before .before .before .before .before .before .before .before .before .before .before .before .before .before .before .before .before .before .before .before .before .before .before .shared-slice-known3 .given) (a .count) (three (a .to-clients .now) (a .to-starts .now) (a .to-ends .now)) _ _ _
+    (c .before .before .before .before .before .before .before .before .before .before .before .before .before .before .before .before .before .before .before .before .before .before .well-formed .ensures) (not-false _ (c .before .before .before .before .before .before .before .before .before .before .before .before .before .before .before .before .before .before .before .before .before .if1 .left)) (c .before .before .before .before .before .before .before .before .before .before .before .before .slice-known8 .given) (c .before .before .before .before .before .before .before .before .before .before .slice-known9 .given) (record { one = l .0; two = l .1 .0; three′ = l .1 .1 .0 }) (c .before .before .before .before .before .before .before .before .before .before .before .before .before .before .before .before .before .before .before .before .most-rows .ensures) (c .before .before .before .before .before .before .before .before .before .before .before .before .before .before .before .before .copy-rows .ensures) (c .before .before .before .before .before .before .finish .ensures)
 
 pub capture-spec : {M : Type 1} → statement M
 capture-spec =
@@ -87,15 +66,9 @@ capture-spec =
     same-length-3
     returns
     most-rows-requires
-    trim-requires-2
+    copy-rows-requires
+    finish-requires
     same-length-4
     same-length-5
     same-length-6
-    returns-2
-    copy-wide-requires
-    copy-requires
-    copy-requires-2
-    same-length-7
-    same-length-8
-    same-length-9
-    returns-3)
+    returns-2)

@@ -8,12 +8,12 @@ use Rattle.tables.proofs.Crossing.{Crossing, crossed-none, crossed-left, crosse
 use Rattle.ids.specs.Inner.{idRow}
 use Rattle.ids.proofs.Numbering.{links}
 use Rattle.ids.proofs.Sharing.{crossing-more}
-use borrow.Author.Needs.{needs}
 use Rattle.ids.proofs.cross.Statement.{statement}
 use Rattle.ids.proofs.cross.Tie as tie
 use Rattle.ids.proofs.cross.Reads as reads
 use Rattle.ids.proofs.cross.Lts as lts
 use Rattle.ids.proofs.keep.Reads as keep-reads
+use Rattle.ids.proofs.row_at.Reads as row-at-reads
 use Rattle.ids.proofs.share.Reads as share-reads
 
 abbrev Inv-loop : tie.InvT-loop
@@ -39,57 +39,27 @@ same-length-3 c = c .before .before .loop .inv .2
 returns : tie.Need-returns Inv-loop μ-loop
 returns c = crossed-right _ _ _ _ _ (λ _. refl) (λ _. refl) (links _ _ _ _ (c .before .before .before .before .before .before .before .before .before .before .before .before .pre .0)) (links _ _ _ _ (c .before .before .before .before .before .before .before .before .before .before .before .before .pre .1 .0)) _ _ _ _ _ (c .if1 .taken) (c .before .before .loop .inv .3 .crossed)
 
-mul-c : tie.Need-mul-c Inv-loop μ-loop
-mul-c c = search needs
+row-at-requires : tie.Need-row-at-requires Inv-loop μ-loop
+row-at-requires c κs = omega (arith, c .before .before .before .before .before .before .before .before .before .before .before .before .pre .0 .few, c .before .loop-test .taken)
 
-shared-slice-read-c : tie.Need-shared-slice-read-c Inv-loop μ-loop
-shared-slice-read-c c = search needs
-
-mul-d : tie.Need-mul-d Inv-loop μ-loop
-mul-d c = search needs
-
-shared-slice-read-d : tie.Need-shared-slice-read-d Inv-loop μ-loop
-shared-slice-read-d c = search needs
-
-mul-share : tie.Need-mul-share Inv-loop μ-loop
-mul-share c = search needs
-
-shared-slice-read-share : tie.Need-shared-slice-read-share Inv-loop μ-loop
-shared-slice-read-share c = search needs
-
-mul-share-2 : tie.Need-mul-share-2 Inv-loop μ-loop
-mul-share-2 c = search needs
-
-shared-slice-read-share-2 : tie.Need-shared-slice-read-share-2 Inv-loop μ-loop
-shared-slice-read-share-2 c = search needs
-
-mul-share-3 : tie.Need-mul-share-3 Inv-loop μ-loop
-mul-share-3 c = search needs
-
-shared-slice-read-share-3 : tie.Need-shared-slice-read-share-3 Inv-loop μ-loop
-shared-slice-read-share-3 c = search needs
-
-mul-share-4 : tie.Need-mul-share-4 Inv-loop μ-loop
-mul-share-4 c = search needs
-
-shared-slice-read-share-4 : tie.Need-shared-slice-read-share-4 Inv-loop μ-loop
-shared-slice-read-share-4 c = search needs
+row-at-requires-2 : tie.Need-row-at-requires-2 Inv-loop μ-loop
+row-at-requires-2 c κs = omega (arith, c .before .before .before .before .before .before .before .before .before .before .before .before .before .pre .1 .0 .few, c .before .if1 .left)
 
 share-requires : tie.Need-share-requires Inv-loop μ-loop
-share-requires c κs = (omega (arith, c .before .before .before .before .before .before .before .before .before .before .before .before .before .before .before .before .before .before .pre .0 .few, c .before .before .before .before .before .before .before .loop-test .taken), omega (arith, c .before .before .before .before .before .before .before .before .before .before .before .before .before .before .before .before .before .before .pre .1 .0 .few, c .before .before .before .before .before .before .if1 .left))
+share-requires c κs = (omega (arith, c .before .before .before .before .before .before .before .before .before .before .before .before .before .before .pre .0 .few, c .before .before .before .loop-test .taken), omega (arith, c .before .before .before .before .before .before .before .before .before .before .before .before .before .before .pre .1 .0 .few, c .before .before .if1 .left))
 
 keep-requires : tie.Need-keep-requires Inv-loop μ-loop
-keep-requires c κs = (omega (arith, c .before .before .before .before .before .before .before .before .before .before .before .before .loop .inv .0, c .before .before .before .before .before .before .before .before .before .before .before .before .loop .inv .1, c .before .before .before .before .before .before .before .before .before .before .before .before .loop .inv .2, c .before .before .before .before .before .before .before .before .before .before .before .before .before .before .before .before .before .before .before .before .before .before .pre .1 .1), omega (arith, c .before .before .before .before .before .before .before .before .before .before .before .before .loop .inv .3 .crossed .few, c .before .before .before .before .before .before .before .before .before .before .before .before .before .before .before .before .before .before .before .before .before .before .pre .0 .few, c .before .before .before .before .before .before .before .before .before .before .before .before .before .before .before .before .before .before .before .before .before .before .pre .1 .0 .few, c .before .before .before .before .before .before .before .before .before .before .before .loop-test .taken, c .before .before .before .before .before .before .before .before .before .before .if1 .left))
+keep-requires c κs = (omega (arith, c .before .before .before .before .before .before .before .before .loop .inv .0, c .before .before .before .before .before .before .before .before .loop .inv .1, c .before .before .before .before .before .before .before .before .loop .inv .2, c .before .before .before .before .before .before .before .before .before .before .before .before .before .before .before .before .before .before .pre .1 .1), omega (arith, c .before .before .before .before .before .before .before .before .loop .inv .3 .crossed .few, c .before .before .before .before .before .before .before .before .before .before .before .before .before .before .before .before .before .before .pre .0 .few, c .before .before .before .before .before .before .before .before .before .before .before .before .before .before .before .before .before .before .pre .1 .0 .few, c .before .before .before .before .before .before .before .loop-test .taken, c .before .before .before .before .before .before .if1 .left))
 
 loop-less : tie.Need-loop-less Inv-loop μ-loop
-loop-less c = less-left _ _ _ _ _ _ (c .before .before .before .before .before .before .before .before .before .before .before .before .before .before .before .before .before .before .before .loop .inv .3 .crossed .one .reached .within) (c .before .before .before .before .before .before .before .before .before .before .before .before .before .before .before .before .before .before .before .loop .inv .3 .crossed .two .reached .within) (c .before .before .before .before .before .before .before .before .before .before .before .before .before .before .before .before .before .before .loop-test .taken) (moves _ _ _ _ _ _ _ refl (c .before .before .before .before .before .before .before .before .before .before .share .ensures .one) (c .before .before .before .before .before .before .before .before .before .before .share .ensures .two))
+loop-less c = less-left _ _ _ _ _ _ (c .before .before .before .before .before .before .before .before .before .before .before .before .before .before .before .loop .inv .3 .crossed .one .reached .within) (c .before .before .before .before .before .before .before .before .before .before .before .before .before .before .before .loop .inv .3 .crossed .two .reached .within) (c .before .before .before .before .before .before .before .before .before .before .before .before .before .before .loop-test .taken) (moves _ _ _ _ _ _ _ refl (c .before .before .before .before .before .before .before .before .before .before .share .ensures .one) (c .before .before .before .before .before .before .before .before .before .before .share .ensures .two))
 
 loop-again : tie.Need-loop-again Inv-loop μ-loop
 loop-again c = (
-  c .before .before .before .before .before .before .keep .kept .0 ∙ c .before .before .before .before .before .before .before .before .before .before .before .before .before .before .before .before .before .before .before .loop .inv .0,
-  c .before .before .before .before .before .before .keep .kept .1 .0 ∙ c .before .before .before .before .before .before .before .before .before .before .before .before .before .before .before .before .before .before .before .loop .inv .1,
-  c .before .before .before .before .before .before .keep .kept .1 .1 .0 ∙ c .before .before .before .before .before .before .before .before .before .before .before .before .before .before .before .before .before .before .before .loop .inv .2,
-  crossing-more _ _ _ _ _ (c .before .before .before .before .before .before .before .before .before .before .before .before .before .before .before .before .before .before .before .before .before .before .before .before .before .before .before .before .before .pre .0) _ _ _ _ (c .before .before .before .before .before .before .before .before .before .before .before .before .before .before .before .before .before .before .before .before .before .before .before .before .before .before .before .before .before .pre .1 .0) _ _ (c .before .before .before .before .before .before .before .before .before .before .before .before .before .before .before .before .before .before .loop-test .taken) (c .before .before .before .before .before .before .before .before .before .before .before .before .before .before .before .before .before .if1 .left) _ _ _ _ _ _ _ _ _ (c .before .before .before .before .before .before .before .before .before .before .share .ensures) (c .before .before .before .before .before .before .keep .ensures) (c .before .before .before .before .before .before .before .before .before .before .before .before .before .before .before .before .before .before .before .loop .inv .3),
+  c .before .before .before .before .before .before .keep .kept .0 ∙ c .before .before .before .before .before .before .before .before .before .before .before .before .before .before .before .loop .inv .0,
+  c .before .before .before .before .before .before .keep .kept .1 .0 ∙ c .before .before .before .before .before .before .before .before .before .before .before .before .before .before .before .loop .inv .1,
+  c .before .before .before .before .before .before .keep .kept .1 .1 .0 ∙ c .before .before .before .before .before .before .before .before .before .before .before .before .before .before .before .loop .inv .2,
+  crossing-more _ _ _ _ _ (c .before .before .before .before .before .before .before .before .before .before .before .before .before .before .before .before .before .before .before .before .before .before .before .before .before .pre .0) _ _ _ _ (c .before .before .before .before .before .before .before .before .before .before .before .before .before .before .before .before .before .before .before .before .before .before .before .before .before .pre .1 .0) _ _ (c .before .before .before .before .before .before .before .before .before .before .before .before .before .before .loop-test .taken) (c .before .before .before .before .before .before .before .before .before .before .before .before .before .if1 .left) _ _ _ _ _ _ _ _ _ _ _ (c .before .before .before .before .before .before .before .before .before .before .before .before .row-at .ensures) (c .before .before .before .before .before .before .before .before .before .before .before .row-at2 .ensures) (c .before .before .before .before .before .before .before .before .before .before .share .ensures) (c .before .before .before .before .before .before .keep .ensures) (c .before .before .before .before .before .before .before .before .before .before .before .before .before .before .before .loop .inv .3),
 )
 
 same-length-4 : tie.Need-same-length-4 Inv-loop μ-loop
@@ -115,18 +85,8 @@ cross-spec =
     same-length-2
     same-length-3
     returns
-    mul-c
-    shared-slice-read-c
-    mul-d
-    shared-slice-read-d
-    mul-share
-    shared-slice-read-share
-    mul-share-2
-    shared-slice-read-share-2
-    mul-share-3
-    shared-slice-read-share-3
-    mul-share-4
-    shared-slice-read-share-4
+    row-at-requires
+    row-at-requires-2
     share-requires
     keep-requires
     loop-less

@@ -1,14 +1,18 @@
 use native.Mathlib.Omega.{arith}
-use mathlib.Core.Path.{refl}
+use Rattle.ids.proofs.Answering.{kept-most, finished-full, finished-done}
 use borrow.Author.Needs.{needs}
 use Rattle.ids.proofs.finish.Statement.{statement}
 use Rattle.ids.proofs.finish.Tie as tie
 use Rattle.ids.proofs.finish.Reads as reads
 use Rattle.ids.proofs.finish.Lts as lts
+use Rattle.ids.proofs.pick_place.Reads as pick-place-reads
 use Rattle.ids.proofs.trim.Reads as trim-reads
 
+pick-place-requires : tie.Need-pick-place-requires
+pick-place-requires c κs = search needs
+
 trim-requires : tie.Need-trim-requires
-trim-requires c κs = search needs
+trim-requires c κs = omega (arith, kept-most {room = c .before .before .before .before .before .before .before .args .most} (c .before .before .before .pick-place .ensures))
 
 same-length : tie.Need-same-length
 same-length c = search needs
@@ -20,10 +24,7 @@ same-length-3 : tie.Need-same-length-3
 same-length-3 c = search needs
 
 returns : tie.Need-returns
-returns c = record { done = λ h. absurd (omega arith); full = λ _. (refl, c .before .before .before .before .before .before .trim .ensures) }
-
-trim-requires-2 : tie.Need-trim-requires-2
-trim-requires-2 c κs = search needs
+returns c = finished-full (c .before .before .before .before .before .before .before .before .before .before .before .pick-place .ensures) (c .if1 .taken) (c .before .before .before .before .before .before .before .trim .ensures)
 
 same-length-4 : tie.Need-same-length-4
 same-length-4 c = search needs
@@ -35,18 +36,18 @@ same-length-6 : tie.Need-same-length-6
 same-length-6 c = search needs
 
 returns-2 : tie.Need-returns-2
-returns-2 c = record { done = λ _. (refl, c .before .before .before .before .before .before .trim2 .ensures); full = λ h. absurd (omega arith) }
+returns-2 c = finished-done (c .before .before .before .before .before .before .before .before .before .before .before .pick-place .ensures) (c .if1 .left) (c .before .before .before .before .before .before .before .trim .ensures)
 
 pub finish-spec : {M : Type 1} → statement M
 finish-spec =
     tie.close
     (tie.spec
+    pick-place-requires
     trim-requires
     same-length
     same-length-2
     same-length-3
     returns
-    trim-requires-2
     same-length-4
     same-length-5
     same-length-6

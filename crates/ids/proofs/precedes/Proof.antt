@@ -1,13 +1,15 @@
 use native.Mathlib.Omega.{arith}
-use Rattle.ids.proofs.Checking.{precedes-says}
-use borrow.Author.Needs.{needs}
+use Rattle.ids.proofs.Checking.{less-says, same-says, other-says}
 use Rattle.ids.proofs.precedes.Statement.{statement}
 use Rattle.ids.proofs.precedes.Tie as tie
 use Rattle.ids.proofs.precedes.Reads as reads
 use Rattle.ids.proofs.precedes.Lts as lts
 
 returns : tie.Need-returns
-returns c = precedes-says _ _ _ _ (omega arith) (omega arith)
+returns c = same-says _ (c .if1 .taken) (less-says _ _)
+
+returns-2 : tie.Need-returns-2
+returns-2 c = other-says _ _ _ _ (c .if1 .left) (omega arith) (omega arith)
 
 pub precedes-spec : {M : Type 1} → statement M
-precedes-spec = tie.close (tie.spec returns)
+precedes-spec = tie.close (tie.spec returns returns-2)

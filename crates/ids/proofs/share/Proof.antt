@@ -1,69 +1,25 @@
-use native.Mathlib.Omega.{arith}
-use Rattle.ids.proofs.Sharing.{shares}
+use borrow.Author.Tests.{eqb-true}
+use Rattle.ids.proofs.Checking.{both-true}
+use Rattle.ids.proofs.Sharing.{shares-same}
 use borrow.Author.Needs.{needs}
 use Rattle.ids.proofs.share.Statement.{statement}
 use Rattle.ids.proofs.share.Tie as tie
 use Rattle.ids.proofs.share.Reads as reads
 use Rattle.ids.proofs.share.Lts as lts
-use Rattle.ids.proofs.pick.Reads as pick-reads
-use Rattle.ids.proofs.pick_place.Reads as pick-place-reads
-use Rattle.ids.proofs.pick_wide.Reads as pick-wide-reads
-use Rattle.ids.proofs.precedes.Reads as precedes-reads
+use Rattle.ids.proofs.share_far.Reads as share-far-reads
+use Rattle.ids.proofs.share_near.Reads as share-near-reads
 
-precedes-requires : tie.Need-precedes-requires
-precedes-requires c κs = search needs
-
-precedes-requires-2 : tie.Need-precedes-requires-2
-precedes-requires-2 c κs = search needs
-
-precedes-requires-3 : tie.Need-precedes-requires-3
-precedes-requires-3 c κs = search needs
-
-pick-requires : tie.Need-pick-requires
-pick-requires c κs = search needs
-
-pick-requires-2 : tie.Need-pick-requires-2
-pick-requires-2 c κs = search needs
-
-add-pick-place : tie.Need-add-pick-place
-add-pick-place c = search needs
-
-pick-place-requires : tie.Need-pick-place-requires
-pick-place-requires c κs = search needs
-
-add-pick-place-2 : tie.Need-add-pick-place-2
-add-pick-place-2 c = search needs
-
-pick-place-requires-2 : tie.Need-pick-place-requires-2
-pick-place-requires-2 c κs = search needs
-
-pick-wide-requires : tie.Need-pick-wide-requires
-pick-wide-requires c κs = search needs
-
-pick-wide-requires-2 : tie.Need-pick-wide-requires-2
-pick-wide-requires-2 c κs = search needs
-
-precedes-requires-4 : tie.Need-precedes-requires-4
-precedes-requires-4 c κs = search needs
+share-near-requires : tie.Need-share-near-requires
+share-near-requires c κs = search needs
 
 returns : tie.Need-returns
-returns c = shares _ _ _ _ _ _ _ _ _ _ _ _ _ _ _ _ _ _ _ (omega arith) (omega arith) (omega arith) (omega arith) (c .before .before .before .before .before .before .before .before .before .precedes .ensures) (c .before .before .before .before .before .before .before .before .precedes2 .ensures) (c .before .before .before .before .before .before .before .precedes3 .ensures)
-    (c .before .before .before .before .before .before .pick .ensures) (c .before .before .before .before .before .pick2 .ensures) (c .before .before .before .before .pick-place .ensures) (c .before .before .before .pick-place2 .ensures) (c .before .before .pick-wide .ensures) (c .before .pick-wide2 .ensures) (c .precedes4 .ensures)
+returns c = let b = both-true _ _ (c .before .if1 .taken) in shares-same (c .before .before .before .before .before .before .args .a) (c .before .before .before .before .before .before .args .g) (c .before .before .before .before .before .before .args .h) (eqb-true _ _ (b .0)) (eqb-true _ _ (b .1)) (c .share-near .ensures)
+
+share-far-requires : tie.Need-share-far-requires
+share-far-requires c κs = search needs
+
+returns-2 : tie.Need-returns-2
+returns-2 c = search needs
 
 pub share-spec : {M : Type 1} → statement M
-share-spec =
-    tie.close
-    (tie.spec
-    precedes-requires
-    precedes-requires-2
-    precedes-requires-3
-    pick-requires
-    pick-requires-2
-    add-pick-place
-    pick-place-requires
-    add-pick-place-2
-    pick-place-requires-2
-    pick-wide-requires
-    pick-wide-requires-2
-    precedes-requires-4
-    returns)
+share-spec = tie.close (tie.spec share-near-requires returns share-far-requires returns-2)
