@@ -14,3 +14,4 @@ pub mod Starred
 pub mod Refuted
 pub mod Same
 pub mod Orders
+pub mod Walking

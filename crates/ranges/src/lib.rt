@@ -10,6 +10,7 @@ ghost use Rattle.tables.specs.Inner.Sweep.{Holds};
 ghost use Rattle.tables.specs.Inner.Unite.{Passed, Ended, Counted, Starts, Ends, Last, Adds, United};
 ghost use Rattle.tables.specs.Inner.Cross.{Keeps};
 ghost use Rattle.tables.specs.Inner.Differ.{GapStart, GapEnd};
+ghost use Rattle.tables.specs.Inner.Ends.{Stores, Dropped, Raised, Below, Above, Halves};
 ghost use Rattle.tables.specs.Inner.Edit.{range, Advanced, Parted, starts, ends, Starting, Ending, Moved, Stands};
 ghost use Rattle.ranges.specs.Tables.{most, Merged, Excluded, Intersected, Inserted, Removed, FromRanges, ContainsClock, FindStart, ClockStart, ClockEnd, Len, IsEmpty, Get};
 ghost use Rattle.ranges.specs.Inner.{rowAt, rowsOf, Ruled, Wrote};
@@ -566,14 +567,25 @@ pub fn merge(a: &[u32], n: usize, b: &[u32], m: usize, out: &mut [u32]) -> table
     finish(out, k)
 }
 
+// The row x, .., y - 1 as row `k`, while there is room.
+fn lay(out: &mut [u32], most: usize, k: usize, x: u32, y: u32)
+    requires { ⌜ 2 * most ≤ length (now out) ⌝ }
+    ensures { λ r. ⌜ Stores most (rowAt (now (out .entry))) k x y (rowAt (now (out .exit))) ⌝ }
+{
+    if k < most {
+        out[2 * k] = x;
+        out[2 * k + 1] = y;
+    }
+}
+
 // The row x, .., y - 1, which is counted if it is not empty, and else written over.
 fn keep(out: &mut [u32], most: usize, k: usize, x: u32, y: u32) -> usize
     requires { ⌜ 2 * most ≤ length (now out) ⌝ }
     requires { ⌜ k ≤ 2 * rowLimit ⌝ }
     ensures { λ r. ⌜ Keeps most (rowAt (now (out .entry))) k x y (rowAt (now (out .exit))) r ⌝ }
+    ensures { λ r. ⌜ ((z : ℕ) → most ≤ z → rowAt (now (out .entry)) z ≡ rowAt (now (out .exit)) z) ⌝ }
 {
-    store_start(out, most, k, x);
-    store_end(out, most, k, y);
+    lay(out, most, k, x, y);
     if x < y { k + 1 } else { k }
 }
 
@@ -634,29 +646,151 @@ pub fn exclude(a: &[u32], n: usize, b: &[u32], m: usize, out: &mut [u32]) -> tab
     finish(out, k)
 }
 
-// The rows of the intersection, a row a step, as many as there is room for, and how many there are.
+// How far the walk from below has come: `i` and `j` rows are passed and `k` are laid.
+struct Low {
+    i: usize,
+    j: usize,
+    k: usize,
+}
+
+// How far the walk from above has come: the rows from `u` and from `v` on are passed, and those from `t` on are laid.
+struct High {
+    u: usize,
+    v: usize,
+    t: usize,
+}
+
+fn row_at(t: &[u32], i: usize) -> Piece
+    requires { ⌜ 2 * i + 1 < length (now t) ⌝ }
+    ensures { λ r. ⌜ r .start ≡ rowAt (now (t .entry)) i .start ⌝ }
+    ensures { λ r. ⌜ r .end ≡ rowAt (now (t .entry)) i .end ⌝ }
+{
+    Piece {
+        start: t[2 * i],
+        end: t[2 * i + 1],
+    }
+}
+
+// A step from below: what the rows `p` and `q` share, and past the one that ends first.
+fn up(out: &mut [u32], most: usize, w: Low, p: Piece, q: Piece) -> Low
+    requires { ⌜ 2 * most ≤ length (now out) ⌝ }
+    requires { ⌜ w .i ≤ rowLimit ⌝ }
+    requires { ⌜ w .j ≤ rowLimit ⌝ }
+    requires { ⌜ w .k ≤ 2 * rowLimit ⌝ }
+    ensures { λ r. ⌜ Below most (rowAt (now (out .entry))) (w .i) (w .j) (w .k) (p .start) (p .end) (q .start) (q .end) (rowAt (now (out .exit))) (r .i) (r .j) (r .k) ⌝ }
+{
+    let x = higher(p.start, q.start);
+    let y = lower(p.end, q.end);
+    let i = passed(w.i, p.end, y);
+    let j = passed(w.j, q.end, y);
+    let k = keep(out, most, w.k, x, y);
+    Low { i: i, j: j, k: k }
+}
+
+// The row before, where the start of that one, `s`, is not before `x`.
+fn dropped(u: usize, s: u32, x: u32) -> usize
+    requires { ⌜ 0 < u ⌝ }
+    ensures { λ r. ⌜ Dropped s x u r ⌝ }
+{
+    if x <= s { u - 1 } else { u }
+}
+
+// One row more from above, where it is not empty.
+fn raised(t: usize, x: u32, y: u32) -> usize
+    requires { ⌜ 0 < t ⌝ }
+    ensures { λ r. ⌜ Raised x y t r ⌝ }
+{
+    if x < y { t - 1 } else { t }
+}
+
+// A step from above: what the rows `p` and `q` share, and past the one that starts last.
+fn down(out: &mut [u32], z: High, p: Piece, q: Piece) -> High
+    requires { ⌜ 2 * (z .t) ≤ length (now out) ⌝ }
+    requires { ⌜ 0 < z .u ⌝ }
+    requires { ⌜ 0 < z .v ⌝ }
+    requires { ⌜ 0 < z .t ⌝ }
+    ensures { λ r. ⌜ Above (rowAt (now (out .entry))) (z .u) (z .v) (z .t) (p .start) (p .end) (q .start) (q .end) (rowAt (now (out .exit))) (r .u) (r .v) (r .t) ⌝ }
+{
+    let x = higher(p.start, q.start);
+    let y = lower(p.end, q.end);
+    let u = dropped(z.u, p.start, x);
+    let v = dropped(z.v, q.start, x);
+    let t = raised(z.t, x, y);
+    lay(out, z.t, z.t - 1, x, y);
+    High { u: u, v: v, t: t }
+}
+
+// Whether both walks can go on by a row, and there is room for both.
+fn apart(w: Low, z: High) -> bool
+    requires { ⌜ w .i ≤ rowLimit ⌝ }
+    requires { ⌜ w .j ≤ rowLimit ⌝ }
+    requires { ⌜ w .k ≤ 2 * rowLimit ⌝ }
+    ensures { λ r. ⌜ Says ((w .i + 1 < z .u) × (w .j + 1 < z .v) × (w .k + 1 < z .t)) r ⌝ }
+{
+    let i = w.i + 1;
+    if z.u <= i {
+        return false;
+    }
+    let j = w.j + 1;
+    if z.v <= j {
+        return false;
+    }
+    let k = w.k + 1;
+    if z.t <= k {
+        return false;
+    }
+    true
+}
+
+// Whether rows of both tables are left between the walks.
+fn between(w: Low, z: High) -> bool
+    ensures { λ r. ⌜ Says ((w .i < z .u) × (w .j < z .v)) r ⌝ }
+{
+    if z.u <= w.i {
+        return false;
+    }
+    if z.v <= w.j {
+        return false;
+    }
+    true
+}
+
+// The rows from `t` on, brought down behind the first `k`, and how many there are in all. Where there is no room for the `k`, only the count.
+fn settle(out: &mut [u32], most: usize, k: usize, t: usize) -> usize
+    requires { ⌜ 2 * most ≤ length (now out) ⌝ }
+    requires { ⌜ t ≤ most ⌝ }
+    requires { ⌜ k ≤ 2 * rowLimit ⌝ }
+    ensures { λ r. ⌜ ((rs : Rows) → Halves most (rowAt (now (out .entry))) k t rs → Holds most (rowAt (now (out .exit))) r rs) ⌝ }
+{
+    let r = k + (most - t);
+    if t < k {
+        return r;
+    }
+    move_down(out, t, most, k);
+    r
+}
+
+// The rows of the intersection, as many as there is room for, and how many there are. Two walks in one loop, from below and from above, hide each other's wait for the next rows.
 fn cross(a: &[u32], n: usize, b: &[u32], m: usize, out: &mut [u32], most: usize) -> usize
     requires { ⌜ Ruled (now a) n ⌝ }
     requires { ⌜ Ruled (now b) m ⌝ }
     requires { ⌜ 2 * most ≤ length (now out) ⌝ }
     ensures { λ r. ⌜ Holds most (rowAt (now (out .exit))) r (combined intersection (rowsOf (now (a .entry)) n) (rowsOf (now (b .entry)) m)) ⌝ }
 {
-    let mut i: usize = 0;
-    let mut j: usize = 0;
-    let mut k: usize = 0;
-    while i < n {
-        if m <= j {
-            return k;
-        }
-        let p = end_at(a, i);
-        let q = end_at(b, j);
-        let x = higher(start_at(a, i), start_at(b, j));
-        let y = lower(p, q);
-        i = passed(i, p, y);
-        j = passed(j, q, y);
-        k = keep(out, most, k, x, y);
+    let mut w = Low { i: 0, j: 0, k: 0 };
+    let mut z = High {
+        u: n,
+        v: m,
+        t: most,
+    };
+    while apart(w, z) {
+        w = up(out, z.t, w, row_at(a, w.i), row_at(b, w.j));
+        z = down(out, z, row_at(a, z.u - 1), row_at(b, z.v - 1));
     }
-    k
+    while between(w, z) {
+        w = up(out, z.t, w, row_at(a, w.i), row_at(b, w.j));
+    }
+    settle(out, most, w.k, z.t)
 }
 
 // Intersection.

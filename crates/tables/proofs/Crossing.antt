@@ -4,20 +4,15 @@ use mathlib.Core.Path.{_≡_, refl, ap, ap₂, sym, subst, subst₂, _∙_}
 use mathlib.Core.List.{List, [], _∷_}
 use Prim.Native.Nat.{ℕ, zero, suc, _+_, _-_, _≤_, _<_, max, min}
 use native.Mathlib.Omega.{arith}
-use native.Mathlib.Numerals.{add-one}
 use Rattle.tables.specs.Inner.Rows.{Row, Rows, at, JoinedFrom, Joined, top, push, combined, intersection, span}
 use Rattle.tables.specs.Inner.Sweep.{Reached, Place, Touches, Pushes, Holds}
-use Rattle.tables.specs.Inner.Unite.{Passed, Starts, Ends}
+use Rattle.tables.specs.Inner.Unite.{Passed}
 use Rattle.tables.specs.Inner.Cross.{Keeps}
 use Rattle.tables.proofs.Joining.{split, at-below, at-top, Built, built, built-none, built-unique}
 use Rattle.tables.proofs.Spanning.{Links, spanned, span-same}
-use Rattle.tables.proofs.Pushing.{piece, pushes-add, pushes-over, holds-push}
+use Rattle.tables.proofs.Pushing.{pushes-add, pushes-over, holds-push}
 use Rattle.tables.proofs.Sweeping.{place-first, place-last, pass-row, pass-none}
 use Rattle.tables.proofs.Uniting.{built-gap, built-push, in-row, pushes-on}
-
-pub keeps : (room : ℕ) (row row₁ row₂ : ℕ → Row) (k x y r : ℕ) → Starts room row k x row₁ → Ends room row₁ k y row₂ → (x < y → r ≡ k + 1) → (y ≤ x → r ≡ k) → Keeps room row k x y row₂ r
-keeps room row row₁ row₂ k x y r s t f g =
-    record { below = λ j m. s .below j m ∙ t .below j m; here = λ h. t .here h ∙ ap (λ (v : ℕ). piece v y 1) (s .here h); new = f; old = g }
 
 -- the rows that are passed at y, the least of two ends
 pub moves : (p q y i i′ j j′ : ℕ) → y ≡ min p q → Passed p y i i′ → Passed q y j j′ → i + j < i′ + j′
@@ -69,11 +64,11 @@ pub record Crossing (ra : ℕ → Row) (n i : ℕ) (rb : ℕ → Row) (m j room 
   pub place : ℕ
   pub crossed : Crossed ra n i rb m j room row k place
 
-none-left : (w : ℕ) → intersection 0 w ≡ 0
+pub none-left : (w : ℕ) → intersection 0 w ≡ 0
 unfolding intersection
 none-left w = refl
 
-none-right : (v : ℕ) → intersection v 0 ≡ 0
+pub none-right : (v : ℕ) → intersection v 0 ≡ 0
 unfolding intersection
 none-right zero = refl
 none-right (suc v) = refl
@@ -108,7 +103,7 @@ module _ (ra : ℕ → Row) (n : ℕ) (rb : ℕ → Row) (m room : ℕ) (u : (j 
       (λ o. ap (λ (w : ℕ). intersection (at (span ra 0 n) z) w) (gap rb m v fb j c g q z a (omega arith)) ∙ none-right _)
       (split z (ra i .start))
 
-  full : (i j x y : ℕ) → i < n → j < m → x ≡ max (ra i .start) (rb j .start) → y ≡ min (ra i .end) (rb j .end) → (z : ℕ) → x ≤ z → z < y → weights z ≡ 1
+  pub full : (i j x y : ℕ) → i < n → j < m → x ≡ max (ra i .start) (rb j .start) → y ≡ min (ra i .end) (rb j .end) → (z : ℕ) → x ≤ z → z < y → weights z ≡ 1
   full i j x y h g e d z a b = ap₂ intersection (in-row ra n u fa i h z (omega arith) (omega arith)) (in-row rb m v fb j g z (omega arith) (omega arith)) ∙ ones
 
   -- A STEP

@@ -20,3 +20,4 @@ pub mod Laying
 pub mod Inserting
 pub mod Placing
 pub mod Viewing
+pub mod Meeting

@@ -5,3 +5,4 @@ pub mod Unite
 pub mod Cross
 pub mod Differ
 pub mod Edit
+pub mod Ends

@@ -1,76 +1,100 @@
-use Rattle.ranges.specs.Inner.{rowAt}
-use Rattle.ranges.proofs.Flat.{ruled-links}
-use Rattle.tables.proofs.Crossing.{Crossing, crossed-none, crossed-step, crossed-left, crossed-right, moves}
-use Rattle.tables.proofs.Uniting.{less-left}
-use lib.ListN.{length, length-set}
-use native.Mathlib.Omega.{arith}
 use mathlib.Core.Path.{_≡_, _∙_, refl}
-use Prim.Native.Nat.{_≤_, _-_, _+_, _*_}
+use Prim.Native.Nat.{_+_, _-_}
+use native.Mathlib.Omega.{arith}
+use lib.ListN.{length}
+use Rattle.tables.proofs.Meeting.{Meeting, meeting-none, meeting-turn, meeting-rest, meeting-less, below-less, meeting-halves}
+use Rattle.ranges.proofs.Walking.{bounds, row-in}
+use Rattle.ranges.specs.Inner.{rowAt}
+use Rattle.ranges.proofs.Editing.{ruled-plain}
 use borrow.Author.Needs.{needs}
 use Rattle.ranges.proofs.cross.Statement.{statement}
 use Rattle.ranges.proofs.cross.Tie as tie
 use Rattle.ranges.proofs.cross.Reads as reads
 use Rattle.ranges.proofs.cross.Lts as lts
-use Rattle.ranges.proofs.end_at.Reads as end-at-reads
-use Rattle.ranges.proofs.higher.Reads as higher-reads
-use Rattle.ranges.proofs.keep.Reads as keep-reads
-use Rattle.ranges.proofs.lower.Reads as lower-reads
-use Rattle.ranges.proofs.passed.Reads as passed-reads
-use Rattle.ranges.proofs.start_at.Reads as start-at-reads
+use Rattle.ranges.proofs.apart.Reads as apart-reads
+use Rattle.ranges.proofs.between.Reads as between-reads
+use Rattle.ranges.proofs.down.Reads as down-reads
+use Rattle.ranges.proofs.row_at.Reads as row-at-reads
+use Rattle.ranges.proofs.settle.Reads as settle-reads
+use Rattle.ranges.proofs.up.Reads as up-reads
 
 abbrev Inv-loop : tie.InvT-loop
-Inv-loop a n b m out₀ most i₀ j₀ k₀ out i j k = (length out ≡ length out₀) × Crossing (rowAt a) n i (rowAt b) m j most (rowAt out) k
+Inv-loop a n b m out₀ most w₀ z₀ out w z = (length out ≡ length out₀) × Meeting (rowAt a) n (w .i) (z .u) (rowAt b) m (w .j) (z .v) most (rowAt out) (w .k) (z .t)
 
 abbrev μ-loop : tie.MeasureT-loop
-μ-loop a n b m out₀ most i₀ j₀ k₀ out i j k = (n + m) - (i + j)
+μ-loop a n b m out₀ most w₀ z₀ out w z = (z .u + z .v) - (w .i + w .j)
 
-loop-holds : tie.Need-loop-holds Inv-loop μ-loop
-loop-holds c = (refl, record { place = 0; crossed = crossed-none _ _ _ _ _ (λ _. refl) (λ _. refl) (ruled-links (c .before .before .before .pre .0)) (ruled-links (c .before .before .before .pre .1 .0)) _ })
+abbrev Inv-loop2 : tie.InvT-loop2
+Inv-loop2 a n b m out₀ most w₀ z out w = (length out ≡ length out₀) × Meeting (rowAt a) n (w .i) (z .u) (rowAt b) m (w .j) (z .v) most (rowAt out) (w .k) (z .t)
 
-same-length : tie.Need-same-length Inv-loop μ-loop
-same-length c = search needs
+abbrev μ-loop2 : tie.MeasureT-loop2
+μ-loop2 a n b m out₀ most w₀ z out w = (z .u + z .v) - (w .i + w .j)
 
-returns : tie.Need-returns Inv-loop μ-loop
-returns c = crossed-right _ _ _ _ _ (λ _. refl) (λ _. refl) (ruled-links (c .before .before .before .before .before .before .pre .0)) (ruled-links (c .before .before .before .before .before .before .pre .1 .0)) _ _ _ _ _ (c .if1 .taken) (c .before .before .loop .inv .1 .crossed)
+loop-holds : tie.Need-loop-holds Inv-loop μ-loop Inv-loop2 μ-loop2
+loop-holds c = (refl, meeting-none _ _ _ _ _ (ruled-plain (c .before .before .before .pre .0)) (ruled-plain (c .before .before .before .pre .1 .0)) _)
 
-end-at-requires : tie.Need-end-at-requires Inv-loop μ-loop
-end-at-requires c κs = search needs
+apart-requires : tie.Need-apart-requires Inv-loop μ-loop Inv-loop2 μ-loop2
+apart-requires c κs = bounds (c .before .before .before .before .pre .0) (c .before .before .before .before .pre .1 .0) (c .loop .inv .1)
 
-end-at-requires-2 : tie.Need-end-at-requires-2 Inv-loop μ-loop
-end-at-requires-2 c κs = search needs
+row-at-requires : tie.Need-row-at-requires Inv-loop μ-loop Inv-loop2 μ-loop2
+row-at-requires c κs = row-in (c .before .before .before .before .before .before .before .pre .0) (c .before .before .before .loop .inv .1 .one .within) (omega (arith, (c .before .before .apart .ensures .right (c .before .if1 .taken)) .0))
 
-start-at-requires : tie.Need-start-at-requires Inv-loop μ-loop
-start-at-requires c κs = search needs
+row-at-requires-2 : tie.Need-row-at-requires-2 Inv-loop μ-loop Inv-loop2 μ-loop2
+row-at-requires-2 c κs = row-in (c .before .before .before .before .before .before .before .before .pre .1 .0) (c .before .before .before .before .loop .inv .1 .two .within) (omega (arith, (c .before .before .before .apart .ensures .right (c .before .before .if1 .taken)) .1))
 
-start-at-requires-2 : tie.Need-start-at-requires-2 Inv-loop μ-loop
-start-at-requires-2 c κs = search needs
+up-requires : tie.Need-up-requires Inv-loop μ-loop Inv-loop2 μ-loop2
+up-requires c κs = (omega (arith, c .before .before .before .before .before .before .before .before .before .pre .1 .1, c .before .before .before .before .before .loop .inv .0, c .before .before .before .before .before .loop .inv .1 .within), bounds (c .before .before .before .before .before .before .before .before .before .pre .0) (c .before .before .before .before .before .before .before .before .before .pre .1 .0) (c .before .before .before .before .before .loop .inv .1))
 
-higher-requires : tie.Need-higher-requires Inv-loop μ-loop
-higher-requires c κs = search needs
+sub-row-at : tie.Need-sub-row-at Inv-loop μ-loop Inv-loop2 μ-loop2
+sub-row-at c = omega (arith, (c .before .before .before .before .before .before .before .before .before .apart .ensures .right (c .before .before .before .before .before .before .before .before .if1 .taken)) .0)
 
-lower-requires : tie.Need-lower-requires Inv-loop μ-loop
-lower-requires c κs = search needs
+row-at-requires-3 : tie.Need-row-at-requires-3 Inv-loop μ-loop Inv-loop2 μ-loop2
+row-at-requires-3 c κs = row-in (c .before .before .before .before .before .before .before .before .before .before .before .before .before .before .pre .0) (c .before .before .before .before .before .before .before .before .before .before .loop .inv .1 .one .within) (omega (arith, (c .before .before .before .before .before .before .before .before .before .apart .ensures .right (c .before .before .before .before .before .before .before .before .if1 .taken)) .0))
 
-passed-requires : tie.Need-passed-requires Inv-loop μ-loop
-passed-requires c κs = search needs
+sub-row-at-2 : tie.Need-sub-row-at-2 Inv-loop μ-loop Inv-loop2 μ-loop2
+sub-row-at-2 c = omega (arith, (c .before .before .before .before .before .before .before .before .before .before .before .apart .ensures .right (c .before .before .before .before .before .before .before .before .before .before .if1 .taken)) .1)
 
-passed-requires-2 : tie.Need-passed-requires-2 Inv-loop μ-loop
-passed-requires-2 c κs = search needs
+row-at-requires-4 : tie.Need-row-at-requires-4 Inv-loop μ-loop Inv-loop2 μ-loop2
+row-at-requires-4 c κs = row-in (c .before .before .before .before .before .before .before .before .before .before .before .before .before .before .before .before .pre .1 .0) (c .before .before .before .before .before .before .before .before .before .before .before .before .loop .inv .1 .two .within) (omega (arith, (c .before .before .before .before .before .before .before .before .before .before .before .apart .ensures .right (c .before .before .before .before .before .before .before .before .before .before .if1 .taken)) .1))
 
-keep-requires : tie.Need-keep-requires Inv-loop μ-loop
-keep-requires c κs = (omega (arith, c .before .before .before .before .before .before .before .before .before .before .before .loop .inv .0, c .before .before .before .before .before .before .before .before .before .before .before .before .before .before .before .pre .1 .1), omega (arith, c .before .before .before .before .before .before .before .before .before .before .before .loop .inv .1 .crossed .few, c .before .before .before .before .before .before .before .before .before .before .before .before .before .before .before .pre .0 .few, c .before .before .before .before .before .before .before .before .before .before .before .before .before .before .before .pre .1 .0 .few, c .before .before .before .before .before .before .before .before .before .before .loop-test .taken, c .before .before .before .before .before .before .before .before .before .if1 .left))
+down-requires : tie.Need-down-requires Inv-loop μ-loop Inv-loop2 μ-loop2
+down-requires c κs = (omega (arith, c .before .before .before .before .before .before .before .before .before .before .before .before .before .before .before .before .before .pre .1 .1, c .before .before .before .before .before .before .before .before .before .before .before .before .before .loop .inv .0, c .before .before .before .before .before .before .before .before .before .before .before .before .before .loop .inv .1 .within, c .before .before .before .before .before .before .before .up .kept .0), (omega (arith, (c .before .before .before .before .before .before .before .before .before .before .before .before .apart .ensures .right (c .before .before .before .before .before .before .before .before .before .before .before .if1 .taken)) .0), (omega (arith, (c .before .before .before .before .before .before .before .before .before .before .before .before .apart .ensures .right (c .before .before .before .before .before .before .before .before .before .before .before .if1 .taken)) .1), omega (arith, (c .before .before .before .before .before .before .before .before .before .before .before .before .apart .ensures .right (c .before .before .before .before .before .before .before .before .before .before .before .if1 .taken)) .2))))
 
-loop-less : tie.Need-loop-less Inv-loop μ-loop
-loop-less c = less-left _ _ _ _ _ _ (c .before .before .before .before .before .before .before .before .before .before .before .before .before .before .loop .inv .1 .crossed .one .reached .within) (c .before .before .before .before .before .before .before .before .before .before .before .before .before .before .loop .inv .1 .crossed .two .reached .within) (c .before .before .before .before .before .before .before .before .before .before .before .before .before .loop-test .taken) (moves _ _ _ _ _ _ _ (c .before .before .before .before .before .before .lower .ensures) (c .before .before .before .before .before .passed .ensures) (c .before .before .before .before .passed2 .ensures))
+loop-less : tie.Need-loop-less Inv-loop μ-loop Inv-loop2 μ-loop2
+loop-less c = meeting-less (c .before .before .before .before .before .before .before .before .before .before .before .before .before .before .before .apart .ensures .right (c .before .before .before .before .before .before .before .before .before .before .before .before .before .before .if1 .taken)) (c .before .before .before .before .before .before .before .before .before .before .up .ensures) (c .before .before .down .ensures)
 
-loop-again : tie.Need-loop-again Inv-loop μ-loop
-loop-again c = (c .before .before .keep .kept .0 ∙ c .before .before .before .before .before .before .before .before .before .before .before .before .before .before .loop .inv .0, crossed-step _ _ _ _ _ (λ _. refl) (λ _. refl) (ruled-links (c .before .before .before .before .before .before .before .before .before .before .before .before .before .before .before .before .before .before .pre .0)) (ruled-links (c .before .before .before .before .before .before .before .before .before .before .before .before .before .before .before .before .before .before .pre .1 .0)) _ _ _ _ _ _ _ _ _ _ _ _ _ _ (c .before .before .before .before .before .before .before .before .before .before .before .before .before .loop-test .taken) (c .before .before .before .before .before .before .before .before .before .before .before .before .if1 .left) (c .before .before .before .before .before .before .before .before .before .before .before .end-at .ensures) (c .before .before .before .before .before .before .before .before .before .before .end-at2 .ensures) (c .before .before .before .before .before .before .before .before .before .start-at .ensures) (c .before .before .before .before .before .before .before .before .start-at2 .ensures) (c .before .before .before .before .before .before .before .higher .ensures) (c .before .before .before .before .before .before .lower .ensures) (c .before .before .before .before .before .passed .ensures) (c .before .before .before .before .passed2 .ensures) (c .before .before .keep .ensures) (c .before .before .before .before .before .before .before .before .before .before .before .before .before .before .loop .inv .1))
+loop-again : tie.Need-loop-again Inv-loop μ-loop Inv-loop2 μ-loop2
+loop-again c = (c .before .before .down .kept .0 ∙ (c .before .before .before .before .before .before .before .before .before .before .up .kept .0 ∙ c .before .before .before .before .before .before .before .before .before .before .before .before .before .before .before .before .loop .inv .0), meeting-turn _ _ _ _ _ (ruled-plain (c .before .before .before .before .before .before .before .before .before .before .before .before .before .before .before .before .before .before .before .before .pre .0)) (ruled-plain (c .before .before .before .before .before .before .before .before .before .before .before .before .before .before .before .before .before .before .before .before .pre .1 .0)) (c .before .before .before .before .before .before .before .before .before .before .before .before .before .before .before .apart .ensures .right (c .before .before .before .before .before .before .before .before .before .before .before .before .before .before .if1 .taken)) (c .before .before .before .before .before .before .before .before .before .before .before .before .row-at .ensures) (c .before .before .before .before .before .before .before .before .before .before .before .row-at2 .ensures) (c .before .before .before .before .before .before .before .before .before .before .up .ensures) (c .before .before .before .before .before .row-at3 .ensures) (c .before .before .before .row-at4 .ensures) (c .before .before .down .ensures) (c .before .before .before .before .before .before .before .before .before .before .before .before .before .before .before .before .loop .inv .1))
 
-same-length-2 : tie.Need-same-length-2 Inv-loop μ-loop
-same-length-2 c = search needs
+loop2-holds : tie.Need-loop2-holds Inv-loop μ-loop Inv-loop2 μ-loop2
+loop2-holds c = (refl, c .before .before .loop .inv .1)
 
-returns-2 : tie.Need-returns-2 Inv-loop μ-loop
-returns-2 c = crossed-left _ _ _ _ _ (λ _. refl) (λ _. refl) (ruled-links (c .before .before .before .before .before .pre .0)) (ruled-links (c .before .before .before .before .before .pre .1 .0)) _ _ _ _ _ (c .loop-test .left) (c .before .loop .inv .1 .crossed)
+between-requires : tie.Need-between-requires Inv-loop μ-loop Inv-loop2 μ-loop2
+between-requires c κs = search needs
+
+row-at-requires-5 : tie.Need-row-at-requires-5 Inv-loop μ-loop Inv-loop2 μ-loop2
+row-at-requires-5 c κs = row-in (c .before .before .before .before .before .before .before .before .before .before .pre .0) (c .before .before .before .loop2 .inv .1 .one .within) ((c .before .before .between .ensures .right (c .before .if2 .taken)) .0)
+
+row-at-requires-6 : tie.Need-row-at-requires-6 Inv-loop μ-loop Inv-loop2 μ-loop2
+row-at-requires-6 c κs = row-in (c .before .before .before .before .before .before .before .before .before .before .before .pre .1 .0) (c .before .before .before .before .loop2 .inv .1 .two .within) ((c .before .before .before .between .ensures .right (c .before .before .if2 .taken)) .1)
+
+up-requires-2 : tie.Need-up-requires-2 Inv-loop μ-loop Inv-loop2 μ-loop2
+up-requires-2 c κs = (omega (arith, c .before .before .before .before .before .before .before .before .before .before .before .before .pre .1 .1, c .before .before .before .before .before .before .before .before .loop .inv .0, c .before .before .before .before .before .loop2 .inv .0, c .before .before .before .before .before .loop2 .inv .1 .within), bounds (c .before .before .before .before .before .before .before .before .before .before .before .before .pre .0) (c .before .before .before .before .before .before .before .before .before .before .before .before .pre .1 .0) (c .before .before .before .before .before .loop2 .inv .1))
+
+loop2-less : tie.Need-loop2-less Inv-loop μ-loop Inv-loop2 μ-loop2
+loop2-less c = below-less (c .before .before .before .before .before .before .before .between .ensures .right (c .before .before .before .before .before .before .if2 .taken)) (c .before .before .up2 .ensures)
+
+loop2-again : tie.Need-loop2-again Inv-loop μ-loop Inv-loop2 μ-loop2
+loop2-again c = (c .before .before .up2 .kept .0 ∙ c .before .before .before .before .before .before .before .before .loop2 .inv .0, meeting-rest _ _ _ _ _ (ruled-plain (c .before .before .before .before .before .before .before .before .before .before .before .before .before .before .before .pre .0)) (ruled-plain (c .before .before .before .before .before .before .before .before .before .before .before .before .before .before .before .pre .1 .0)) (c .before .before .before .before .before .before .before .between .ensures .right (c .before .before .before .before .before .before .if2 .taken)) (c .before .before .before .before .row-at5 .ensures) (c .before .before .before .row-at6 .ensures) (c .before .before .up2 .ensures) (c .before .before .before .before .before .before .before .before .loop2 .inv .1))
+
+settle-requires : tie.Need-settle-requires Inv-loop μ-loop Inv-loop2 μ-loop2
+settle-requires c κs = (omega (arith, c .before .before .before .before .before .before .before .before .before .before .pre .1 .1, c .before .before .before .before .before .before .loop .inv .0, c .before .before .before .loop2 .inv .0), (c .before .before .before .loop2 .inv .1 .within, bounds (c .before .before .before .before .before .before .before .before .before .before .pre .0) (c .before .before .before .before .before .before .before .before .before .before .pre .1 .0) (c .before .before .before .loop2 .inv .1) .1 .1))
+
+same-length : tie.Need-same-length Inv-loop μ-loop Inv-loop2 μ-loop2
+same-length c = c .before .before .settle .kept .0 ∙ (c .before .before .before .before .before .before .loop2 .inv .0 ∙ c .before .before .before .before .before .before .before .before .before .loop .inv .0)
+
+returns : tie.Need-returns Inv-loop μ-loop Inv-loop2 μ-loop2
+returns c = c .before .before .settle .ensures _ (meeting-halves _ _ _ _ _ (ruled-plain (c .before .before .before .before .before .before .before .before .before .before .before .before .before .pre .0)) (ruled-plain (c .before .before .before .before .before .before .before .before .before .before .before .before .before .pre .1 .0)) (c .before .before .before .before .before .between .ensures .wrong (c .before .before .before .before .if2 .left)) (c .before .before .before .before .before .before .loop2 .inv .1))
 
 pub cross-spec : {M : Type 1} → statement M
 cross-spec =
@@ -78,19 +102,27 @@ cross-spec =
     (tie.spec
     Inv-loop
     μ-loop
+    Inv-loop2
+    μ-loop2
     loop-holds
-    same-length
-    returns
-    end-at-requires
-    end-at-requires-2
-    start-at-requires
-    start-at-requires-2
-    higher-requires
-    lower-requires
-    passed-requires
-    passed-requires-2
-    keep-requires
+    apart-requires
+    row-at-requires
+    row-at-requires-2
+    up-requires
+    sub-row-at
+    row-at-requires-3
+    sub-row-at-2
+    row-at-requires-4
+    down-requires
     loop-less
     loop-again
-    same-length-2
-    returns-2)
+    loop2-holds
+    between-requires
+    row-at-requires-5
+    row-at-requires-6
+    up-requires-2
+    loop2-less
+    loop2-again
+    settle-requires
+    same-length
+    returns)

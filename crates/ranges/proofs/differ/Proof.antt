@@ -64,7 +64,7 @@ loop-again c = (
   c .before .before .keep .kept .0 ∙ c .before .before .before .before .before .before .before .before .before .before .before .before .before .loop .inv .0,
   differed-step _ _ _ _ _ _ (λ _. refl) (λ _. refl) (ruled-links (c .before .before .before .before .before .before .before .before .before .before .before .before .before .before .before .before .before .pre .0)) (ruled-links (c .before .before .before .before .before .before .before .before .before .before .before .before .before .before .before .before .before .pre .1 .0)) _ _ _ _ _ _ _ _ _ _ _ _ _ _
       (c .before .before .before .before .before .before .before .before .before .before .before .before .loop-test .taken) (gap-left (c .before .before .before .before .before .before .before .before .before .before .before .before .before .loop .inv .1) (c .before .before .before .before .before .before .before .before .before .before .before .before .loop-test .taken) (omega (arith, c .before .before .before .before .before .before .before .before .before .before .before .end-at .ensures, c .before .before .before .before .before .before .before .before .before .before .before .end-at .ok))) (c .before .before .before .before .before .before .before .before .before .before .before .end-at .ensures) (c .before .before .before .before .before .before .before .before .before .start-at .ensures) (c .before .before .before .before .before .before .before .before .gap-start .ensures) (c .before .before .before .before .before .before .before .before .before .before .gap-end .ensures) (omega (arith, c .before .before .before .before .before .before .before .before .before .before .gap-end .ok)) (c .before .before .before .before .before .before .before .higher .ensures) (c .before .before .before .before .before .before .lower .ensures)
-      (c .before .before .before .before .before .passed .ensures) (c .before .before .before .before .passed2 .ensures) (c .before .before .keep .ensures) (c .before .before .before .before .before .before .before .before .before .before .before .before .before .loop .inv .1),
+      (c .before .before .before .before .before .passed .ensures) (c .before .before .before .before .passed2 .ensures) (c .before .before .keep .ensures .0) (c .before .before .before .before .before .before .before .before .before .before .before .before .before .loop .inv .1),
 )
 
 same-length : tie.Need-same-length Inv-loop μ-loop

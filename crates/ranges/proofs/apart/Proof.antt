@@ -1,0 +1,31 @@
+use native.Mathlib.Omega.{arith}
+use Rattle.tables.proofs.Saying.{says-yes, says-no}
+use borrow.Author.Needs.{needs}
+use Rattle.ranges.proofs.apart.Statement.{statement}
+use Rattle.ranges.proofs.apart.Tie as tie
+use Rattle.ranges.proofs.apart.Reads as reads
+use Rattle.ranges.proofs.apart.Lts as lts
+
+add-i : tie.Need-add-i
+add-i c = search needs
+
+returns : tie.Need-returns
+returns c = says-no (λ h. omega (arith, h .0))
+
+add-j : tie.Need-add-j
+add-j c = search needs
+
+returns-2 : tie.Need-returns-2
+returns-2 c = says-no (λ h. omega (arith, h .1))
+
+add-k : tie.Need-add-k
+add-k c = search needs
+
+returns-3 : tie.Need-returns-3
+returns-3 c = says-no (λ h. omega (arith, h .2))
+
+returns-4 : tie.Need-returns-4
+returns-4 c = says-yes (omega arith, omega arith, omega arith)
+
+pub apart-spec : {M : Type 1} → statement M
+apart-spec = tie.close (tie.spec add-i returns add-j returns-2 add-k returns-3 returns-4)

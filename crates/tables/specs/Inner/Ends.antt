@@ -1,0 +1,45 @@
+-- What the private functions of two walks say, one from below and one from above, that meet. A step takes the row p, .., e - 1 of the one table and q, .., f - 1 of the other.
+use mathlib.Core.Path.{_≡_}
+use mathlib.Core.List.{_++_}
+use Prim.Native.Nat.{ℕ, _+_, _-_, _≤_, _<_, max, min}
+use Rattle.tables.specs.Inner.Rows.{Row, Rows, span}
+use Rattle.tables.specs.Inner.Sweep.{Holds}
+use Rattle.tables.specs.Inner.Unite.{Passed}
+use Rattle.tables.specs.Inner.Cross.{Keeps}
+
+-- the row x, .., y - 1 stored at k while there is room; every other row stays
+pub record Stores (room : ℕ) (row : ℕ → Row) (k x y : ℕ) (row′ : ℕ → Row) : Type 0 where
+  pub here : k < room → row′ k ≡ record { start = x; end = y; weight = 1 }
+  pub other : (z : ℕ) → (z ≡ k → ⊥) → row z ≡ row′ z
+  pub full : room ≤ k → (z : ℕ) → row z ≡ row′ z
+
+-- u moves down where s is not before x
+pub record Dropped (s x u r : ℕ) : Type 0 where
+  pub on : x ≤ s → r ≡ u - 1
+  pub off : s < x → r ≡ u
+
+-- one row more above, where it is not empty
+pub record Raised (x y t r : ℕ) : Type 0 where
+  pub new : x < y → r ≡ t - 1
+  pub old : y ≤ x → r ≡ t
+
+-- A step from below: what the two rows share is laid as row k, and a row that ends first is passed
+pub record Below (room : ℕ) (row : ℕ → Row) (i j k p e q f : ℕ) (row′ : ℕ → Row) (i′ j′ k′ : ℕ) : Type 0 where
+  pub one : Passed e (min e f) i i′
+  pub two : Passed f (min e f) j j′
+  pub keeps : Keeps room row k (max p q) (min e f) row′ k′
+  pub above : (z : ℕ) → room ≤ z → row z ≡ row′ z
+
+-- A step from above: what the two rows share is laid before row t, and a row that starts last is passed
+pub record Above (row : ℕ → Row) (u v t p e q f : ℕ) (row′ : ℕ → Row) (u′ v′ t′ : ℕ) : Type 0 where
+  pub one : Dropped p (max p q) u u′
+  pub two : Dropped q (max p q) v v′
+  pub raised : Raised (max p q) (min e f) t t′
+  pub stores : Stores t row (t - 1) (max p q) (min e f) row′
+
+-- the table rs in two parts: the first k rows, as far as there is room below t, and the rows from t on
+pub record Halves (most : ℕ) (row : ℕ → Row) (k t : ℕ) (rs : Rows) : Type 0 where
+  pub within : t ≤ most
+  pub low : Rows
+  pub holds : Holds t row k low
+  pub whole : low ++ span row t (most - t) ≡ rs
