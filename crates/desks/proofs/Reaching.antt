@@ -10,7 +10,7 @@ use lib.Dec.{eqb}
 use native.Mathlib.Omega.{arith}
 use Rattle.tables.specs.declared.Made.the-variants.{Rows, Refused}
 use Rattle.ids.specs.Rows.{Row}
-use Rattle.desks.specs.Runs.{Place, desk, message, choose, Event, insert, capture, merge, reached, Untouched, Reaches, there, through}
+use Rattle.desks.specs.Runs.{desk, message, choose, Event, insert, capture, merge, reached, Untouched, Reaches, there, through}
 
 -- a range of a message: it had reached a desk when the message was captured, and no later line wrote the message
 record Sent (log : List Event) (m : ℕ) (r : Row) : Type 0 where

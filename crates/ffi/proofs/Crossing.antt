@@ -11,12 +11,6 @@ use Rattle.varint.specs.Integer.{IntAnswer, refusedInt, intBytes, writeSignedAt
 use Rattle.varint.specs.Answer.{noOf, said8, said32, said64, saidSize, wrote}
 use Rattle.varint.specs.Answer.{saidI8, saidI16, saidI32, saidI64, saidIsize}
 use Rattle.varint.specs.Answer.{saidSignedI8, saidSignedI16, saidSignedI32, saidSignedI64, saidSignedIsize}
-use Rattle.varint.specs.Answer.{noOf, said8, said32, said64, saidSize, wrote}
-use Rattle.varint.specs.Answer.{saidI8, saidI16, saidI32, saidI64, saidIsize}
-use Rattle.varint.specs.Answer.{saidSignedI8, saidSignedI16, saidSignedI32, saidSignedI64, saidSignedIsize}
-use Rattle.varint.specs.Answer.{noOf, said8, said32, said64, saidSize, wrote}
-use Rattle.varint.specs.Answer.{saidI8, saidI16, saidI32, saidI64, saidIsize}
-use Rattle.varint.specs.Answer.{saidSignedI8, saidSignedI16, saidSignedI32, saidSignedI64, saidSignedIsize}
 use Rattle.varint.specs.declared.Refusal.{Refusal}
 use Rattle.varint.specs.declared.ReadU8.{ReadU8}
 use Rattle.varint.specs.declared.ReadU8.the-variants as u8
@@ -51,11 +45,6 @@ use Rattle.varint.specs.declared.ReadSignedI64.the-variants as signed-i64
 use Rattle.varint.specs.declared.SignedIsize.{SignedIsize}
 use Rattle.varint.specs.declared.ReadSignedIsize.{ReadSignedIsize}
 use Rattle.varint.specs.declared.ReadSignedIsize.the-variants as signed-isize
-use Rattle.varint.specs.declared.SignedI8.{SignedI8}
-use Rattle.varint.specs.declared.SignedI16.{SignedI16}
-use Rattle.varint.specs.declared.SignedI32.{SignedI32}
-use Rattle.varint.specs.declared.SignedI64.{SignedI64}
-use Rattle.varint.specs.declared.SignedIsize.{SignedIsize}
 use Rattle.varint.specs.declared.Wrote.{Wrote}
 use Rattle.varint.specs.declared.Wrote.the-variants as answer
 use Rattle.varint.proofs.Answers.{doneInt, widens, through}
@@ -63,7 +52,6 @@ use Rattle.ffi.specs.Boundary.{placed}
 use Rattle.ffi.specs.Inner.{Placed}
 use Rattle.ffi.specs.declared.Place.{Place}
 
--- unsigned numbers
 -- unsigned numbers
 module _ (at : ℕ) {a : Answer} where
   pub u8-done : {r : ReadU8} {v p z : ℕ} → said8 at r ≡ a → r ≡ u8.Done v p → z ≡ v → done z p ≡ a

@@ -25,6 +25,7 @@ use Rattle.ids.specs.Tables as of-ids
 use Rattle.state_vector.specs.Vectors as of-vectors
 use Rattle.state_vector.specs.Bytes as bytes
 use Rattle.state_vector.specs.declared.Decoded.the-variants as decoded
+use Rattle.state_vector.proofs.Determined as vectors
 use Rattle.ffi.specs.declared.Number.{Number}
 use Rattle.ffi.specs.declared.Integer.{Integer}
 use Rattle.ffi.specs.declared.Place.{Place}
@@ -34,7 +35,7 @@ use Rattle.ffi.specs.declared.Vector.{Vector}
 use Rattle.ffi.specs.declared.Verdict.{Verdict}
 use Rattle.ffi.specs.declared.Row as boundary
 use Rattle.ffi.specs.Boundary.{number, integer, placed, Crosses, asRows, asYesNo, foundRow, asRow, verdict, asVerdict, asVector}
-use Rattle.ffi.proofs.Determined.{numbers-determined, integers-determined, writers-determined, iz-ids-insert-range-determined, iz-vector-decode-determined}
+use Rattle.ffi.proofs.Determined.{number-one, integer-one, placed-one, crossed, ids-one}
 
 -- ## Tables
 
@@ -121,7 +122,7 @@ module _ (c d s k e : ℕ) (o out : of-ids.Slices) (r : Rows) where
   pub clients-apart : c < d → s < k → k < e → 2 ≤ of-ids.most o → Crosses (of-ids.Inserted (of-ids.held (c ∷ []) (s ∷ []) (k ∷ []) 1) (row d k e) o out) asRows r
       → (r ≡ record { no = 0; count = 2 }) × (out ≡ of-ids.filled rows-apart o)
   clients-apart f g h m x =
-      iz-ids-insert-range-determined (of-ids.held (c ∷ []) (s ∷ []) (k ∷ []) 1) o (row d k e) out (of-ids.filled rows-apart o) r (record { no = 0; count = 2 }) x
+      ids-one o out (of-ids.filled rows-apart o) r (record { no = 0; count = 2 }) x
       (record {
         answer = made.Rows 2;
         kept = done rows-apart (lit≤ tt, (g, tt, tt)) (
@@ -144,11 +145,11 @@ module _ (bs : List ℕ) (at : ℕ) (h : length bs ≤ at) where
 
   -- a read past the end: END, value 0 and the place as given. Here f is what a narrow or plain width makes of the answer: it keeps this one.
   pub read-past : (f : number′.Answer → number′.Answer) → f (refused 1 at) ≡ refused 1 at → (w : ℕ) (r : Number) → number r ≡ f (readAt w bs at) → r ≡ record { no = 1; value = 0; next = at }
-  read-past f k w r p = numbers-determined r (record { no = 1; value = 0; next = at }) p (sym (ap f (number-past w) ∙ k))
+  read-past f k w r p = number-one r (record { no = 1; value = 0; next = at }) p (sym (ap f (number-past w) ∙ k))
 
   pub read-signed-past : (f : IntAnswer → IntAnswer) → f (refusedInt 1 at) ≡ refusedInt 1 at → (r : Integer) → integer r ≡ f (signedAt bs at)
       → r ≡ record { no = 1; value = pos 0; «is_negative» = false; next = at }
-  read-signed-past f k r p = integers-determined r (record { no = 1; value = pos 0; «is_negative» = false; next = at }) p (sym (ap f integer-past ∙ k))
+  read-signed-past f k r p = integer-one r (record { no = 1; value = pos 0; «is_negative» = false; next = at }) p (sym (ap f integer-past ∙ k))
 
   pub read-u8-past : (r : Number) → number r ≡ narrowed 256 at (readAt 32 bs at) → r ≡ record { no = 1; value = 0; next = at }
   unfolding narrowed
@@ -162,7 +163,7 @@ module _ (bs : List ℕ) (at : ℕ) (h : length bs ≤ at) where
       → (r ≡ record { no = 1; count = 0; next = at }) × (out ≡ of-vectors.filled [] o)
   unfolding bytes.vectorAt andThen
   decode-past o out r x =
-      iz-vector-decode-determined bs at o out (of-vectors.filled [] o) r (record { no = 1; count = 0; next = at }) x
+      crossed (vectors.decode-determined bs at o) out (of-vectors.filled [] o) r (record { no = 1; count = 0; next = at }) x
       (record { answer = decoded.Refused End; kept = bytes.refused 1 (rw (number-past 32)) refl refl; same = refl })
 
 -- more bytes than remain from the place, or a place past the end: FULL, the buffer and the place as given
@@ -170,7 +171,7 @@ module _ (buf after : List ℕ) (at : ℕ) (r : Place) where
   pub write-past : (ns : List ℕ) → length buf < at + length ns → placed r after ≡ writeAt ns buf at → (r ≡ record { no = 4; next = at }) × (after ≡ buf)
   unfolding writeAt
   write-past ns h p =
-      writers-determined r (record { no = 4; next = at }) after buf p
+      placed-one r (record { no = 4; next = at }) after buf p
       (sym (ap (λ (b : Bool). cond b (record { no = 0; place = at + length ns; buffer = take at buf ++ ns ++ drop (at + length ns) buf }) (unwritten 4 buf at)) (lt-leb (at + length ns) (length buf) h)))
 
   pub encode-past : (a : of-vectors.Held) → of-vectors.Table a → length buf < at + length (bytes.encoded (of-vectors.rows a)) → bytes.Encodes a buf at (placed r after)

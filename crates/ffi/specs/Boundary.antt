@@ -9,7 +9,6 @@ use Rattle.varint.specs.Integer.{IntAnswer}
 use Rattle.ffi.specs.declared.Number.{Number}
 use Rattle.ffi.specs.declared.Integer.{Integer}
 use Rattle.tables.specs.Answers.{saidMade, saidTold, saidCounted}
-use Rattle.tables.specs.Answers as said
 use Rattle.tables.specs.declared.Made.{Made}
 use Rattle.tables.specs.declared.Told.{Told}
 use Rattle.tables.specs.declared.Counted.{Counted}
