@@ -34,6 +34,18 @@ fn main() {
         println!("cargo:rerun-if-changed={}", concat!(env!("CARGO_MANIFEST_DIR"), "/../bindings/boundary.rs"));
         fs::write(PathBuf::from(env::var("OUT_DIR").unwrap()).join("boundary.rs"), boundary(&fs::read_to_string(src).unwrap())).unwrap();
     }
+    // the measuring loops in the library's own language, where PACE_LIB names the folder of libpace.a
+    println!("cargo:rerun-if-env-changed=PACE_LIB");
+    println!("cargo:rustc-check-cfg=cfg(pace)");
+    if let Ok(dir) = env::var("PACE_LIB") {
+        println!("cargo:rerun-if-changed={dir}/libpace.a");
+        println!("cargo:rustc-link-search=native={dir}");
+        println!("cargo:rustc-link-lib=static=pace");
+        println!("cargo:rustc-cfg=pace");
+        let src = concat!(env!("CARGO_MANIFEST_DIR"), "/../crates/pace/src/lib.rt");
+        println!("cargo:rerun-if-changed={src}");
+        fs::write(PathBuf::from(env::var("OUT_DIR").unwrap()).join("pace.rs"), boundary(&fs::read_to_string(src).unwrap())).unwrap();
+    }
     // other libraries for the measurements, where PEERS_LIB names the folder of libpeers.a
     println!("cargo:rerun-if-env-changed=PEERS_LIB");
     println!("cargo:rustc-check-cfg=cfg(peers)");

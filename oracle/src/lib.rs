@@ -9,7 +9,7 @@ pub use stand_ins::{Any, ReadTxn};
 mod stand_ins;
 pub use stand_ins::{block_store, iter, slice, store};
 
-#[cfg(rattle)]
+#[cfg(all(rattle, pace))]
 pub mod bench;
 pub mod case;
 pub mod facts;

@@ -12,6 +12,8 @@ pub fn number(_: &Case) -> Option<Num> { None }
 pub use linked::{answer, number};
 #[cfg(rattle)]
 pub mod boundary { include!(concat!(env!("OUT_DIR"), "/boundary.rs")); }
+#[cfg(pace)]
+pub mod pace { include!(concat!(env!("OUT_DIR"), "/pace.rs")); }
 
 #[cfg(rattle)]
 mod linked {

@@ -135,24 +135,28 @@ length-int v f e h = h ∙ rw (e, toZ-ofZ f) (sym (sign-length (ltZ v (pos 0)) (
 
 pub ruleset sizes = (one-more-fits, below-zero, not-below-zero, length-one, length-small, length-more, length-int, needs)
 
--- The writer puts a first byte, with the sign's bit f, and the bytes of the rest of the magnitude.
+-- The writer puts a first byte, of the bits b, and the bytes of the rest of the magnitude.
 pub flag-small : (b : Bool) → cond b 64 0 ≤ 64
 flag-small true = omega arith
 flag-small false = omega arith
 
-module _ (minus : Bool) (m : ℕ) {f : ℕ} (e : f ≡ cond minus 64 0) where
-  pub only-byte : m < 64 → signedBytes minus m ≡ (m + f) ∷ []
-  only-byte h = rw e (signed-last minus m h)
+pub flagged : (x : ℕ) {b : Bool} → b ≡ true → x + 64 ≡ x + cond b 64 0
+flagged x h = rw h
 
-  pub small-fits : m < 64 → Fits w8 (m + f)
-  small-fits h = record { fits = omega (arith, e, flag-small minus) }
+pub unflagged : (x : ℕ) {b : Bool} → b ≡ false → x ≡ x + cond b 64 0
+unflagged x h = rw (h, add-zero)
 
-  pub large-fits : Fits w8 (128 + m % 64 + f)
-  large-fits = record { fits = omega (arith, e, flag-small minus) }
+module _ (minus : Bool) (m : ℕ) {b : ℕ} (e : b ≡ m % 64 + cond minus 64 0) where
+  pub only-byte : m < 64 → signedBytes minus m ≡ b ∷ []
+  only-byte h = rw (e, mod-eq-of-lt h) (signed-last minus m h)
 
-  pub rest-put : {at : ℕ} {buf after : List ℕ} {p : ℕ} → Fits w64 m → 64 ≤ m → Stored (bytesOf (m / 64)) (set buf at (128 + m % 64 + f)) (at + 1) after p
-      → Stored (signedBytes minus m) buf at after p
-  rest-put fits h s = rw (signed-more minus m h (fits .fits)) (record { place = s .place ∙ omega arith; bytes = s .bytes ∙ rw (e, add-one) })
+  pub first-fits : Fits w8 (128 + b)
+  first-fits = record { fits = omega (arith, e, flag-small minus) }
+
+  pub rest-put : {at : ℕ} {buf after : List ℕ} {p : ℕ} → Fits w64 m → 64 ≤ m → Stored (bytesOf (m / 64)) (set buf at (128 + b)) (at + 1) after p → Stored (signedBytes minus m) buf at after p
+  rest-put fits h s =
+      let same : 128 + b ≡ 128 + m % 64 + cond minus 64 0 = omega (arith, e) in
+      rw (signed-more minus m h (fits .fits)) (record { place = s .place ∙ omega arith; bytes = s .bytes ∙ rw (same, add-one) })
 
 module _ (minus : Bool) (m : ℕ) where
   pub signed-some : 1 ≤ length (signedBytes minus m)
@@ -169,4 +173,4 @@ set-kept after buf i x e = e ∙ length-set buf i x
 pub set-room : (ns buf : List ℕ) (at i x : ℕ) {t : Bool} → t ≡ leb (at + length ns) (length buf) → t ≡ true → at + length ns ≤ length (set buf i x)
 set-room ns buf at i x told h = rw length-set (room-there at ns buf told h)
 
-pub ruleset putting = (signed-some, at-end, only-byte, single, small-fits, large-fits, rest-room, set-room, rest-put, full, wrote-all, set-kept, needs)
+pub ruleset putting = (flagged, unflagged, signed-some, at-end, only-byte, single, first-fits, rest-room, set-room, rest-put, full, wrote-all, set-kept, needs)

@@ -6,11 +6,11 @@ use mathlib.Core.List.{List, [], _∷_}
 use mathlib.Core.Bool.{Bool, true, false, cond, true≢false}
 use native.Mathlib.Omega.{arith}
 use borrow.Author.Tests.{lt-ltb}
-use lib.Dec.{ltb, leb}
+use lib.Dec.{ltb, leb, eqb}
 use lib.IntN.{ℤ, pos, negsuc, natAbs}
 use lib.ListN.{length, drop}
 use lib.Seq.{drop-at, drop-drop}
-use Rattle.varint.specs.Number.{Answer, andThen, shifted, reads, readAt, narrowed, written, bytesOf, Written, writeAt}
+use Rattle.varint.specs.Number.{Answer, andThen, shifted, reads, readBy, signed, readAt, narrowed, written, bytesOf, Written, writeAt}
 use Rattle.varint.specs.Integer.{IntAnswer, signedAt, plain, fitting, wrongSign, writeSignedAt}
 use Rattle.varint.specs.Answer.{noOf, said8, said32, said64, saidI8, saidSignedI64, wrote}
 use Rattle.varint.specs.declared.Refusal.{Refusal}
@@ -82,6 +82,16 @@ wrapped = otherwise (λ (a : IntAnswer). a .no) (λ (z : 0 ≡ 3). omega arith)
 pub lost-flag : saidSignedI64 0 (signed-i64.Done (record { value = pos 0; «is_negative» = false }) 1) ≡ signedAt (0x40 ∷ []) 0 → ⊥
 unfolding signedAt andThen reads
 lost-flag = otherwise (λ (a : IntAnswer). cond (a .negative) 1 0) (λ (z : 0 ≡ 1). omega arith)
+
+-- a signed refusal that keeps a value or a flag, or moves the place
+pub signed-refusal : (at : ℕ) (bytes : List ℕ) {n p : ℕ} {v : ℤ} {b : Bool} → record { no = suc n; value = v; negative = b; place = p } ≡ signedAt bytes at
+    → (v ≡ pos 0) × ((b ≡ false) × (p ≡ at))
+unfolding signedAt andThen
+signed-refusal at bytes {n} {p} {v} {b} e = told (eqb (readBy signed bytes at .no) 0) refl
+  where
+    told : (t : Bool) → eqb (readBy signed bytes at .no) 0 ≡ t → (v ≡ pos 0) × ((b ≡ false) × (p ≡ at))
+    told true h = let z : suc n ≡ 0 = ap (λ (a : IntAnswer). a .no) (rw h at e) in absurd (omega arith)
+    told false h = let f = rw h at e in (ap (λ (a : IntAnswer). a .value) f, (ap (λ (a : IntAnswer). a .negative) f, ap (λ (a : IntAnswer). a .place) f))
 
 -- Writers, of whatever bytes ns.
 module _ (ns buf after : List ℕ) (at : ℕ) where

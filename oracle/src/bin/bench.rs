@@ -1,8 +1,8 @@
 //! bench [MS [SEED]]: measures, prints, and lays the tables into the file that SPEED names.
-#[cfg(not(rattle))]
-fn main() { eprintln!("the proved library is not linked: RATTLE_LIB"); std::process::exit(2) }
+#[cfg(not(all(rattle, pace)))]
+fn main() { eprintln!("the proved libraries are not linked: RATTLE_LIB, PACE_LIB"); std::process::exit(2) }
 
-#[cfg(rattle)]
+#[cfg(all(rattle, pace))]
 fn main() {
     use oracle::bench::*;
     use std::fmt::Write;
@@ -25,7 +25,7 @@ fn main() {
             for l in String::from_utf8_lossy(&o.stdout).lines() {
                 let Some((name, ns)) = l.split_once('\t') else { continue };
                 println!("node: {name} {ns} ns");
-                for x in b.out.iter_mut().filter(|x| x.name == name) { x.peers.push(("lib0, Yjs", ns.parse().unwrap())) }
+                for x in b.out.iter_mut().filter(|x| x.name == name || x.name == format!("{name}, the loop inside")) { x.peers.push(("lib0, Yjs", ns.parse().unwrap())) }
             }
         }
     }
