@@ -1,12 +1,12 @@
 -- Pairs read one after the other: their rows, the vector of them, and what the decoder's loop knows. Assumes nothing.
 use mathlib.Core.Path.{_≡_, refl, ap, sym, subst, _∙_}
 use mathlib.Core.Logic.{⊎-elim}
-use mathlib.Core.Bool.{Bool, true, false, cond}
+use mathlib.Core.Bool.{Bool, cond}
 use mathlib.Core.List.{List, [], _∷_}
-use Prim.Native.Nat.{ℕ, zero, suc, _+_, _-_, _≤_, _<_, min}
+use Prim.Native.Nat.{ℕ, suc, _-_, _≤_, _<_}
 use native.Mathlib.Omega.{arith}
 use borrow.Author.Tests.{eq-eqb, ne-eqb, le-leb, lt-leb}
-use lib.Dec.{eqb, leb}
+use lib.Dec.{leb}
 use lib.ListN.{length}
 use Rattle.varint.specs.Number.{andThen, readAt}
 use Rattle.varint.specs.Answer.{noOf, said32, said64, why32, why64}
@@ -18,8 +18,8 @@ use Rattle.varint.specs.declared.ReadU64.{ReadU64}
 use Rattle.varint.specs.declared.ReadU64.the-variants as u64
 use Rattle.varint.proofs.Chaining.{done64, refused64, done32, refused32}
 use Rattle.state_vector.specs.Rows.{Row, row, In, at, Rising, VectorOf}
-use Rattle.state_vector.specs.Vectors.{Slices, two, held, rowsOf, room, most, Table, filled}
-use Rattle.state_vector.specs.Bytes.{stored, Pairs, read, stop, pairsAt, vectorAt, Decoding, decoding, saidDecoded, Decodes, done, refused}
+use Rattle.state_vector.specs.Vectors.{Slices, held, rowsOf, most, Table, filled}
+use Rattle.state_vector.specs.Bytes.{stored, Pairs, stop, pairsAt, vectorAt, decoding, saidDecoded, Decodes, done, refused}
 use Rattle.state_vector.specs.Inner.{rowAt, span, put, Holds, Reads, all, none}
 use Rattle.state_vector.specs.declared.Decoded.{Decoded}
 use Rattle.state_vector.specs.declared.Decoded.the-variants as decoded

@@ -1,6 +1,6 @@
 -- Each routine's statement determines its answer and what is left in the lent memory. Assumes nothing.
 use mathlib.Core.Path.{_≡_, refl, ap, ap₂, sym, subst, _∙_}
-use mathlib.Core.List.{List, []}
+use mathlib.Core.List.{List}
 use Prim.Native.Nat.{ℕ}
 use native.Mathlib.Omega.{arith}
 use lib.ListN.{length}
@@ -11,9 +11,9 @@ use Rattle.tables.specs.Answers as answers
 use Rattle.tables.specs.declared.Made.{Made}
 use Rattle.tables.proofs.Giving.{One, gives-determined, tells-determined}
 use Rattle.state_vector.specs.Rows.{Row, In, at, VectorOf, Verdict, less, equal, greater, none, Compare}
-use Rattle.state_vector.specs.Vectors.{Slices, Held, filled, Writes, saidGot, Gets, MinSet, MaxSet, Merged, saidOrder, Compared}
+use Rattle.state_vector.specs.Vectors.{Slices, Held, filled, saidGot, Gets, MinSet, MaxSet, Merged, saidOrder, Compared}
 use Rattle.state_vector.specs.Bytes as bytes
-use Rattle.state_vector.specs.Bytes.{Pairs, read, stop, Encoded, Encodes, Decoding, saidDecoded, Decodes}
+use Rattle.state_vector.specs.Bytes.{Encoded, Encodes, Decoding, saidDecoded, Decodes}
 use Rattle.tables.proofs.Viewing.{Undone, view-same, byNo, refused-back, made-same}
 use Rattle.state_vector.specs.declared.Got.{Got}
 use Rattle.state_vector.specs.declared.Got.the-variants as got
@@ -67,7 +67,7 @@ order-same = view-same saidOrder (byNo verdict order.Refused) back
     back order.Nothing = refl
     back (order.Refused e) = refused-back verdict order.Refused e none
 
-decoded-same : (place : ℕ) (r s : Decoded) → saidDecoded place r ≡ saidDecoded place s → r ≡ s
+pub decoded-same : (place : ℕ) (r s : Decoded) → saidDecoded place r ≡ saidDecoded place s → r ≡ s
 decoded-same place r s e = view-same said (byNo done decoded.Refused) back r s (ap (λ (d : Decoding). record { no = d .no; value = bytes.decoding 0 (d .count) (d .place) }) e)
   where
     said : Decoded → answers.Answer Decoding

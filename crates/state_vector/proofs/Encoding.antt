@@ -1,12 +1,12 @@
 -- The bytes of a vector: how many there are, and what the loops that count and write them know. Assumes nothing.
-use mathlib.Core.Path.{_≡_, refl, ap, sym, subst, _∙_}
+use mathlib.Core.Path.{_≡_, ap, sym, subst, _∙_}
 use mathlib.Core.List.{List, [], _∷_, _++_, append-nil, append-assoc}
 use Prim.Native.Nat.{ℕ, zero, suc, _+_, _-_, _*_, _^_, _≤_, _<_}
 use native.Mathlib.Omega.{arith}
 use lib.ListN.{length, getD, take, drop, length-append, take-append-drop}
 use borrow.Author.Tests.{lt-leb}
 use Rattle.tables.specs.Limits.{vectorLimit}
-use Rattle.varint.specs.Number.{bytesOf, Written, unwritten, writeAt}
+use Rattle.varint.specs.Number.{bytesOf, unwritten, writeAt}
 use Rattle.varint.specs.Answer.{noOf, wrote}
 use Rattle.varint.specs.declared.Refusal.the-variants.{Full}
 use Rattle.varint.specs.declared.Refusal.{Refusal}
@@ -14,7 +14,7 @@ use Rattle.varint.specs.declared.Wrote.{Wrote}
 use Rattle.varint.specs.declared.Wrote.the-variants as answer
 use Rattle.varint.proofs.Chaining.{Put, put, unput, put-writes, put-length, put-both}
 use Rattle.varint.proofs.Writing.{bytes-most}
-use Rattle.state_vector.specs.Rows.{Row, row}
+use Rattle.state_vector.specs.Rows.{Row}
 use Rattle.state_vector.specs.Vectors.{Slices, two, Held, held, rowsOf, rows, Table}
 use Rattle.state_vector.specs.Bytes.{rowBytes, encoded, Typed}
 use Rattle.state_vector.specs.Inner.{rowAt, span, Puts}

@@ -1,9 +1,9 @@
 -- What stands at the place of a client, and a row put there. Assumes nothing.
-use mathlib.Core.Path.{_≡_, refl, ap, ap₂, sym, subst, _∙_}
+use mathlib.Core.Path.{_≡_, refl, ap, sym, subst, _∙_}
 use mathlib.Core.Logic.{⊎-elim}
 use mathlib.Core.Bool.{Bool, true, false, cond}
 use mathlib.Core.List.{List, [], _∷_}
-use Prim.Native.Nat.{ℕ, zero, suc, _+_, _-_, _≤_, _<_, min}
+use Prim.Native.Nat.{ℕ, suc, _+_, _-_, _≤_, _<_, min}
 use native.Mathlib.Omega.{arith}
 use lib.Dec.{eqb}
 use lib.ListN.{length, getD, set}
@@ -13,8 +13,8 @@ use Rattle.state_vector.specs.Vectors.{Slices, two, held, rowsOf, room, 
 use Rattle.varint.specs.declared.Refusal.the-variants.{Full}
 use Rattle.tables.specs.Answers.{full}
 use Rattle.tables.specs.declared.Made.the-variants as made
-use Rattle.state_vector.specs.Inner.{Finds, Stands, Firsts, element, rowAt, span, put, Holds, Opens}
-use Rattle.state_vector.proofs.Looking.{look, look-here, look-past, same-or-not, at-look, length-put-new, length-put-old, set-right}
+use Rattle.state_vector.specs.Inner.{Finds, Stands, Firsts, element, rowAt, put, Holds, Opens}
+use Rattle.state_vector.proofs.Looking.{look, same-or-not, at-look, length-put-new, length-put-old, set-right}
 use Rattle.state_vector.proofs.Spanning.{rows-span, span-same, look-none, look-found, put-found, put-new, table-span, length-rows, table-rising, table-climbs}
 use Rattle.state_vector.proofs.Loops.{climbs-less}
 use Rattle.state_vector.proofs.Storing.{row-of}

@@ -1,9 +1,9 @@
 -- A vector by its clients' clocks: there is one, and what `put`, a row behind and two vectors side by side read. Assumes nothing.
 use mathlib.Core.Path.{_≡_, refl, ap, ap₂, sym, subst, _∙_}
-use mathlib.Core.Logic.{_⊎_, inl, inr, ⊎-elim, _↔_}
+use mathlib.Core.Logic.{_⊎_, inl, inr, ⊎-elim}
 use mathlib.Core.List.{List, [], _∷_, _++_}
 use mathlib.Core.Bool.{Bool, true, false, cond}
-use Prim.Native.Nat.{ℕ, zero, suc, _+_, _-_, _≤_, _<_, max}
+use Prim.Native.Nat.{ℕ, suc, _+_, _-_, _≤_, _<_, max}
 use native.Mathlib.Omega.{arith}
 use borrow.Author.Tests.{ltb-true, ltb-false, eqb-true, eqb-false, eq-eqb, ne-eqb, lt-ltb, le-ltb}
 use lib.Dec.{eqb, ltb}
@@ -50,13 +50,6 @@ pub look-in : (t : List Row) (c : ℕ) → 0 < look t c → In t c
 unfolding look
 look-in [] c h = absurd (let z : ⊥ = omega arith in z)
 look-in (r ∷ t) c h = ⊎-elim (λ e. inl e) (λ n. inr (look-in t c (subst (λ (v : ℕ). 0 < v) (look-past r t c n) h))) (same-or-not c (r .client))
-
-pub not-in : (t : List Row) (c : ℕ) → (In t c → ⊥) → look t c ≡ 0
-not-in t c n = let f : (0 < look t c → ⊥) = λ h. n (look-in t c h) in none (look t c) f
-  where
-    none : (v : ℕ) → (0 < v → ⊥) → v ≡ 0
-    none zero f = refl
-    none (suc v) f = absurd (f (omega arith))
 
 -- clients before the first are absent
 pub over : (r : Row) (t : List Row) (c : ℕ) → c ≤ r .client → First r t → Rising t → look t c ≡ 0

@@ -84,9 +84,6 @@ halves-found h l = record { within = omega (arith, h .within, h .order); below =
 pub finds-last : {cs : List ℕ} {n c : ℕ} → Climbs cs n → 0 < n → getD cs (n - 1) 0 < c → Finds cs n c n
 finds-last {cs} {n} g z l = record { within = omega arith; below = λ j h. omega (arith, climbs-at g j (n - 1) (omega arith) (omega arith)); above = λ j a b. absurd (let y : ⊥ = omega arith in y) }
 
-pub finds-none : {cs : List ℕ} {n c : ℕ} → n ≡ 0 → Finds cs n c 0
-finds-none e = record { within = omega arith; below = λ j h. absurd (omega arith); above = λ j a b. absurd (let z : ⊥ = omega arith in z) }
-
 -- ## Copies and moves
 
 pub firsts-none : (f : ℕ → ℕ) (d : List ℕ) → Firsts 0 f d

@@ -1,11 +1,10 @@
 -- Wrong programs that the promises exclude: document 01, "How tight the statements are" and "Errors that tempt". Assumes nothing.
 use mathlib.Core.Path.{_≡_, refl, ap, sym, subst, _∙_}
-use mathlib.Core.Logic.{⊎-elim}
 use mathlib.Core.List.{List, [], _∷_, append-nil}
 use Prim.Native.Nat.{ℕ, zero, suc, _+_, _-_, _^_, _≤_, _<_}
 use native.Mathlib.Omega.{arith}
 use borrow.Author.Tests.{eqb-false}
-use lib.ListN.{length, getD, replicate, length-replicate, getD-replicate}
+use lib.ListN.{length, getD, replicate, length-replicate}
 use Rattle.varint.specs.Answer.{noOf}
 use Rattle.varint.specs.declared.Refusal.{Refusal}
 use Rattle.varint.specs.declared.Refusal.the-variants.{Full}
@@ -16,7 +15,7 @@ use Rattle.tables.specs.declared.Made.the-variants as made
 use Rattle.state_vector.specs.Rows.{Row, row}
 use Rattle.state_vector.specs.Vectors.{Slices, two, Held, held, rows, most, Table, filled, Writes, MinSet, Merged, Compared}
 use Rattle.state_vector.specs.Bytes as bytes
-use Rattle.state_vector.specs.Bytes.{encoded, stored, read, stop, vectorAt, Decoding, saidDecoded, Decodes}
+use Rattle.state_vector.specs.Bytes.{encoded, stored, read, vectorAt, Decoding, saidDecoded, Decodes}
 use Rattle.state_vector.specs.Inner.{put}
 use Rattle.state_vector.specs.declared.Decoded.the-variants as decoded
 use Rattle.state_vector.specs.declared.Order.{Order}

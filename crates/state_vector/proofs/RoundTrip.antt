@@ -1,23 +1,28 @@
 -- Decoding what was encoded gives the same rows, and two vectors never have the same bytes. Assumes nothing.
 use mathlib.Core.Path.{_≡_, refl, ap, ap₂, sym, subst, _∙_}
 use mathlib.Core.List.{List, [], _∷_, _++_, append-nil, append-assoc}
-use mathlib.Core.Bool.{cond}
-use Prim.Native.Nat.{ℕ, zero, suc, _+_, _^_, _≤_, _<_}
+use Prim.Native.Nat.{ℕ, _+_, _^_, _≤_, _<_}
 use native.Mathlib.Omega.{arith}
 use borrow.Author.Tests.{le-leb}
-use lib.ListN.{length, drop, length-append}
+use lib.ListN.{length, take, drop, length-append}
 use lib.Seq.{drop-drop, drop-append-seam}
-use Rattle.varint.specs.Number.{Answer, andThen, readAt, bytesOf, Written, unwritten, writeAt}
+use Rattle.varint.specs.Number.{andThen, readAt, bytesOf, Written, writeAt}
 use Rattle.varint.specs.Number as number
-use Rattle.varint.proofs.Chaining.{Put, put, put-read}
+use Rattle.varint.proofs.Chaining.{Put, put, unput, put-writes, put-read}
 use Rattle.varint.proofs.RoundTrip.{read-written}
-use Rattle.state_vector.specs.Rows.{Row, row, In, at, First, Rising, VectorOf}
+use Rattle.state_vector.specs.Rows.{Row, In, at, Rising, VectorOf}
 use Rattle.state_vector.specs.Vectors.{Slices, Held, rows, most, Table, filled}
-use Rattle.state_vector.specs.Bytes.{rowBytes, encoded, Typed, stored, Pairs, read, stop, pairsAt, vectorAt, Encodes, writes, malformed, Decoding, decoding, Decodes, done, refused}
-use Rattle.state_vector.proofs.Looking.{look, look-past, vector-one}
-use Rattle.state_vector.proofs.Encoding.{Words, words}
+use Rattle.state_vector.specs.Bytes.{rowBytes, encoded, Encoded, Typed, ComesBack, saidDecoded, stored, read, pairsAt, vectorAt, Encodes, writes, malformed, Decoding, decoding, Decodes, done, refused}
+use Rattle.state_vector.proofs.Looking.{vector-one}
+use Rattle.varint.specs.Answer.{wrote}
+use Rattle.varint.specs.declared.Refusal.{Refusal}
+use Rattle.varint.specs.declared.Wrote.{Wrote}
+use Rattle.varint.specs.declared.Wrote.the-variants as answer
+use Rattle.state_vector.specs.declared.Decoded.{Decoded}
+use Rattle.state_vector.proofs.Encoding.{Words, words, encoded-most}
+use Rattle.state_vector.proofs.Determined.{decoded-same}
 use Rattle.state_vector.proofs.Spanning.{length-rows}
-use Rattle.state_vector.proofs.Decoding.{Same, same-vector, stored-ways}
+use Rattle.state_vector.proofs.Decoding.{same-vector, stored-ways}
 
 -- ## Pairs, read as they stand one behind the other
 
@@ -110,6 +115,40 @@ round-trip a buf after place p o out d w l (writes t e) x = go x
         let same : u ≡ rows a = vector-one u (rows a) (subst (λ (x : List Row). VectorOf (In x) (at x) u) y v) (own-vector (rows a) (t .rising)) in
         (i ∙ ap₂ (λ (x : List Row) (n : ℕ). decoding 0 (length x) n) same z, j ∙ ap (λ (x : List Row). filled x o) same)
     go (refused n f i j) = absurd (let z : _≡_ {A = ℕ} 0 1 = cc back in omega arith)
+
+-- the same of whatever the two routines answer, by their contracts
+module _ {a : Held} {buf : List ℕ} {place : ℕ} (r : Wrote) (after : List ℕ) (e : Encoded a buf place r after) (t : Table a) (room : place + length (encoded (rows a)) ≤ length buf) where
+  there : Encodes a buf place (record { no = 0; place = place + length (encoded (rows a)); buffer = after })
+  unfolding writeAt
+  there = go e
+    where
+      buffer : (r : Wrote) → wrote place r after .buffer ≡ after
+      buffer (answer.Done p) = refl
+      buffer (answer.Refused x) = refl
+
+      fitting : writeAt (encoded (rows a)) buf place ≡ record { no = 0; place = place + length (encoded (rows a)); buffer = take place buf ++ encoded (rows a) ++ drop (place + length (encoded (rows a))) buf }
+      fitting = rw (le-leb (place + length (encoded (rows a))) (length buf) room) refl
+
+      go : Encodes a buf place (wrote place r after) → Encodes a buf place (record { no = 0; place = place + length (encoded (rows a)); buffer = after })
+      go (malformed n q) = absurd (n t)
+      go (writes t q) = writes t (put-writes (record { room = room; place = refl; bytes = sym (buffer r) ∙ ap (λ (w : Written). w .buffer) (q ∙ fitting) }))
+
+pub comes-back : {a : Held} {buf after : List ℕ} {place : ℕ} (r : Wrote) {o out : Slices} (d : Decoded) → Typed (a .slices) → Encoded a buf place r after
+    → Decodes after place o out (saidDecoded place d) → ComesBack a buf place o out d
+comes-back {a} {buf} {after} {place} r {o} {out} d w e x = record { answer = λ t f l. decoded-same place d _ (both t f l .0 ∙ ap (λ (n : ℕ). decoding 0 n (place + length (encoded (rows a)))) (length-rows t)); memory = λ t f l. both t f l .1 }
+  where
+    both : Table a → place + length (encoded (rows a)) ≤ length buf → a .count ≤ most o
+        → (saidDecoded place d ≡ decoding 0 (length (rows a)) (place + length (encoded (rows a)))) × (out ≡ filled (rows a) o)
+    both t f l = round-trip a buf after place (place + length (encoded (rows a))) o out (saidDecoded place d) w (omega (arith, length-rows t)) (there r after e t f) x
+
+-- THE ENCODER GOES AT MOST 3,842 BYTES FURTHER, AND IS NEVER REFUSED WHERE SO MANY REMAIN
+pub encode-most : {a : Held} {buf after : List ℕ} {place p : ℕ} → Typed (a .slices) → Encoded a buf place (answer.Done p) after → p ≤ place + 3842
+encode-most w (writes t e) = omega (arith, put e .place, encoded-most t w)
+encode-most w (malformed n e) = absurd (let z = ap (λ (v : Written). v .no) e in omega arith)
+
+pub encode-room : {a : Held} {buf after : List ℕ} {place : ℕ} (x : Refusal) → Typed (a .slices) → Table a → Encoded a buf place (answer.Refused x) after → length buf < place + 3842
+encode-room x w t (writes u e) = omega (arith, unput x e .full, encoded-most t w)
+encode-room x w t (malformed n e) = absurd (n t)
 
 -- TWO VECTORS NEVER HAVE THE SAME BYTES
 pub encoded-one : {a b : Held} → Table a → Table b → Typed (a .slices) → Typed (b .slices) → encoded (rows a) ≡ encoded (rows b) → rows a ≡ rows b

@@ -1,14 +1,13 @@
 -- The rows of two slices, by their index. Assumes nothing.
 use mathlib.Core.Path.{_≡_, refl, ap, ap₂, sym, subst, _∙_}
-use mathlib.Core.Logic.{_⊎_, inl, inr, ⊎-elim}
 use mathlib.Core.List.{List, [], _∷_, _++_, map}
-use Prim.Native.Nat.{ℕ, zero, suc, _+_, _-_, _≤_, _<_, max}
+use Prim.Native.Nat.{ℕ, zero, suc, _+_, _-_, _≤_, _<_}
 use native.Mathlib.Nat.{le-of-suc-le-suc, not-suc-le-zero, add-zero}
 use native.Mathlib.Omega.{arith}
-use lib.ListN.{length, getD, take, drop, set}
+use lib.ListN.{length, getD, take}
 use Rattle.tables.specs.Limits.{vectorLimit}
-use Rattle.state_vector.specs.Rows.{Row, row, First, Rising}
-use Rattle.state_vector.specs.Vectors.{Slices, two, held, rowsOf, Table}
+use Rattle.state_vector.specs.Rows.{Row, row, Rising}
+use Rattle.state_vector.specs.Vectors.{two, held, rowsOf, Table}
 use Rattle.state_vector.specs.Inner.{Climbs, rowAt, span, put}
 use Rattle.state_vector.proofs.Looking.{look, look-here, look-past, look-append, put-before, put-here, put-behind}
 

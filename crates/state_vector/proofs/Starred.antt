@@ -1,6 +1,5 @@
 -- The starred examples of document 01, "Bytes and rows to try", on state vectors: one table under one statement. Assumes nothing.
 use mathlib.Core.Path.{_≡_, refl}
-use mathlib.Core.Logic.{⊎-elim, inl, inr}
 use mathlib.Core.List.{List, [], _∷_}
 use Prim.Native.Nat.{ℕ, _≤_}
 use native.Mathlib.Omega.{arith}
@@ -9,8 +8,8 @@ use lib.Dec.{eqb}
 use lib.ListN.{length}
 use Rattle.tables.specs.Limits.{vectorLimit}
 use Rattle.varint.specs.Number.{andThen, reads, readAt, written, bytesOf}
-use Rattle.state_vector.specs.Rows.{Row, row, In, at, VectorOf, Verdict, less, equal, greater, none, Compare}
-use Rattle.state_vector.specs.Bytes.{rowBytes, encoded, stored, Pairs, read, pairsAt, vectorAt}
+use Rattle.state_vector.specs.Rows.{Row, row, In, at, VectorOf, Verdict, equal, none, Compare}
+use Rattle.state_vector.specs.Bytes.{rowBytes, encoded, stored, read, pairsAt, vectorAt}
 use Rattle.state_vector.proofs.RoundTrip.{own-vector}
 
 pub data Example : Type 0 where

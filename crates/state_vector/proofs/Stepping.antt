@@ -1,19 +1,19 @@
 -- Two vectors passed side by side, a client a step: what is left of each, the rows merged so far, and the order so far. Assumes nothing.
 use mathlib.Core.Path.{_≡_, refl, ap, ap₂, sym, subst, subst₂, _∙_}
-use mathlib.Core.Logic.{_⊎_, inl, inr, ⊎-elim}
-use mathlib.Core.Bool.{Bool, true, false, cond, _||_, true≢false, false≢true}
-use mathlib.Core.List.{List, [], _∷_, _++_, append-nil, append-assoc}
+use mathlib.Core.Logic.{_⊎_, ⊎-elim}
+use mathlib.Core.Bool.{Bool, true, false, cond, _||_, true≢false}
+use mathlib.Core.List.{List, [], _∷_, _++_, append-assoc}
 use Prim.Native.Nat.{ℕ, zero, suc, _+_, _-_, _≤_, _<_, min, max}
 use native.Mathlib.Omega.{arith}
-use borrow.Author.Tests.{eqb-true, eqb-false, eq-eqb, ne-eqb, ltb-true, ltb-false, le-ltb}
+use borrow.Author.Tests.{eqb-true, eqb-false, eq-eqb, ltb-true, ltb-false}
 use lib.Dec.{eqb, ltb}
 use lib.ListN.{length, getD, set}
 use lib.Seq.{set-getD}
-use Rattle.state_vector.specs.Rows.{Row, row, at, First, Rising, Below, Merge, Compare}
-use Rattle.state_vector.specs.Vectors.{Slices, two, held, rowsOf, room, Table, saidOrder}
+use Rattle.state_vector.specs.Rows.{Row, row, at, First, Rising, Below}
+use Rattle.state_vector.specs.Vectors.{Slices, held, rowsOf, room, Table}
 use Rattle.state_vector.specs.Inner.{rowAt, span, Holds, Firsts, element, Stores, Passes, Rests, Fronts, Unites, Nulls, anyLess, Unders, judged, Judges}
 use Rattle.state_vector.proofs.Looking.{look, look-here, look-past, same-or-not, at-look, over, look-append, between, merge-right}
-use Rattle.state_vector.proofs.Spanning.{span-cons, span-none, look-none, table-span, table-rising}
+use Rattle.state_vector.proofs.Spanning.{span-cons, span-none, table-span, table-rising}
 use Rattle.state_vector.proofs.Storing.{two-of, holds-none, holds-store}
 
 -- client x, with its clock and one more, or 0 where it is absent, is taken off the front of rising rows
@@ -54,27 +54,29 @@ module _ (f : ℕ → Row) (n i x : ℕ) (h : i < n) (least : x ≤ f i .client)
   off false e = subst (λ (l : List Row). Off x 0 l l) (sym (span-cons f n i h)) (left-on (λ q. eqb-false _ _ e (sym q)))
 
 -- one step on one side: the code's numbers
-pub record Side (a : Slices) (n i p x y i′ : ℕ) : Type 0 where
-  pub client : p ≡ getD (a .clients) i 0
-  pub clock : y ≡ cond (eqb p x) (getD (a .clocks) i 0) 0
-  pub next : Passes i p x i′
+pub record Side (a : Slices) (i x y i′ : ℕ) : Type 0 where
+  pub clock : y ≡ cond (eqb (getD (a .clients) i 0) x) (getD (a .clocks) i 0) 0
+  pub next : Passes i (getD (a .clients) i 0) x i′
 
-abbrev weight : ℕ → ℕ → ℕ → ℕ
-weight p x k = cond (eqb p x) (suc k) 0
+-- the clock and one more where row i is of client x, else 0
+abbrev weight : Slices → ℕ → ℕ → ℕ
+weight a i x = cond (eqb (getD (a .clients) i 0) x) (suc (getD (a .clocks) i 0)) 0
 
-side-off : {a : Slices} {n i p x y i′ : ℕ} → Side a n i p x y i′ → i < n → x ≤ p → Rising (span (rowAt a) i (n - i))
-    → Off x (weight p x (getD (a .clocks) i 0)) (span (rowAt a) i (n - i)) (span (rowAt a) i′ (n - i′))
-side-off {a} {n} {i} {p} {x} {y} {i′} s h l g =
-    subst (λ (j : ℕ). Off x (weight p x (getD (a .clocks) i 0)) (span (rowAt a) i (n - i)) (span (rowAt a) j (n - j))) (sym (s .next .is))
-    (subst (λ (q : ℕ). Off x (weight q x (getD (a .clocks) i 0)) (span (rowAt a) i (n - i)) (span (rowAt a) (cond (eqb q x) (i + 1) i) (n - cond (eqb q x) (i + 1) i))) (sym (s .client))
-    (off (rowAt a) n i x h (omega (arith, s .client)) g (eqb (getD (a .clients) i 0) x) refl))
+side-off : {a : Slices} {n i x y i′ : ℕ} → Side a i x y i′ → i < n → x ≤ getD (a .clients) i 0 → Rising (span (rowAt a) i (n - i))
+    → Off x (weight a i x) (span (rowAt a) i (n - i)) (span (rowAt a) i′ (n - i′))
+side-off {a} {n} {i} {x} s h l g =
+    subst (λ (j : ℕ). Off x (weight a i x) (span (rowAt a) i (n - i)) (span (rowAt a) j (n - j))) (sym (s .next .is)) (off (rowAt a) n i x h l g (eqb (getD (a .clients) i 0) x) refl)
 
-side-clock : {a : Slices} {n i p x y i′ : ℕ} → Side a n i p x y i′ → y ≡ weight p x (getD (a .clocks) i 0) - 1
-side-clock {a} {n} {i} {p} {x} s = s .clock ∙ pick (eqb p x)
+side-clock : {a : Slices} {i x y i′ : ℕ} → Side a i x y i′ → y ≡ weight a i x - 1
+side-clock {a} {i} {x} s = s .clock ∙ pick (eqb (getD (a .clients) i 0) x)
   where
     pick : (t : Bool) → cond t (getD (a .clocks) i 0) 0 ≡ cond t (suc (getD (a .clocks) i 0)) 0 - 1
     pick true = omega arith
     pick false = refl
+
+-- a row of client x itself
+same-side : (a : Slices) (i : ℕ) {x : ℕ} → getD (a .clients) i 0 ≡ x → Side a i x (getD (a .clocks) i 0) (i + 1)
+same-side a i {x} e = record { clock = rw (eq-eqb (getD (a .clients) i 0) x e) refl; next = record { is = rw (eq-eqb (getD (a .clients) i 0) x e) refl } }
 
 moves : {n i p x i′ : ℕ} → Passes i p x i′ → i < n → (i ≤ i′) × (i′ ≤ n) × (p ≡ x → i′ ≡ i + 1)
 moves {n} {i} {p} {x} {i′} s h = go (eqb p x) refl (s .is)
@@ -82,10 +84,6 @@ moves {n} {i} {p} {x} {i′} s h = go (eqb p x) refl (s .is)
     go : (t : Bool) → eqb p x ≡ t → i′ ≡ cond t (i + 1) i → (i ≤ i′) × (i′ ≤ n) × (p ≡ x → i′ ≡ i + 1)
     go true e q = (omega arith, omega arith, λ _. q)
     go false e q = (omega arith, omega arith, λ z. absurd (eqb-false p x e z))
-
--- a row of client x itself
-same-side : (a : Slices) (n i : ℕ) {p x : ℕ} → p ≡ getD (a .clients) i 0 → p ≡ x → Side a n i p x (getD (a .clocks) i 0) (i + 1)
-same-side a n i {p} {x} e f = record { client = e; clock = rw (eq-eqb p x f) refl; next = record { is = rw (eq-eqb p x f) refl } }
 
 -- a step passes a row
 pub step-less : {n m i j p q x i′ j′ : ℕ} → i < n → j < m → x ≡ min p q → Passes i p x i′ → Passes j q x j′ → (n + m) - (i′ + j′) < (n + m) - (i + j)
@@ -112,6 +110,14 @@ pub record Part (w : ℕ → ℕ) (t xs ys : List Row) : Type 0 where
   pub left : Rising (t ++ xs)
   pub right : Rising (t ++ ys)
   pub means : (c : ℕ) → w c ≡ max (look t c) (max (look xs c) (look ys c))
+
+turned : {w : ℕ → ℕ} {t xs ys : List Row} → Part w t xs ys → Part w t ys xs
+turned p = record { left = p .right; right = p .left; means = λ c. omega (arith, p .means c) }
+
+-- nothing is left of the one
+whole : {w : ℕ → ℕ} {t xs ys : List Row} → Part w t xs ys → ys ≡ [] → (c : ℕ) → look (t ++ xs) c ≡ w c
+unfolding look
+whole {t = t} {xs = xs} p e c = look-append t xs c (p .left) ∙ omega (arith, p .means c, ap (λ (l : List Row). look l c) e)
 
 pub rising-tail : (t xs : List Row) → Rising (t ++ xs) → Rising xs
 rising-tail [] xs g = g
@@ -183,9 +189,9 @@ module _ {a : Slices} {n : ℕ} {b : Slices} {m most : ℕ} {o₀ : Slices} wher
     pub rising-right : Rising (span (rowAt b) j (m - j))
     rising-right = rising-tail (s .t) _ (s .part .right)
 
-    pub uniting-more : {out : Slices} {p q x y z v i′ j′ : ℕ} → i < n → j < m → x ≡ min p q → Side a n i p x y i′ → Side b m j q x z j′ → v ≡ max y z
+    pub uniting-more : {out : Slices} {x y z v i′ j′ : ℕ} → i < n → j < m → x ≡ min (getD (a .clients) i 0) (getD (b .clients) j 0) → Side a i x y i′ → Side b j x z j′ → v ≡ max y z
         → length (out .clients) ≡ length (o .clients) → length (out .clocks) ≡ length (o .clocks) → Stores most k (row x v) o out → Uniting a n b m most o₀ out i′ j′ (k + 1)
-    uniting-more {out} {p} {q} {x} {y} {z} {v} {i′} {j′} h l e u w f lc lk st =
+    uniting-more {out} {x} {y} {z} {v} {i′} {j′} h l e u w f lc lk st =
         let ma = moves (u .next) h in
         let mb = moves (w .next) l in
         record {
@@ -194,7 +200,7 @@ module _ {a : Slices} {n : ℕ} {b : Slices} {m most : ℕ} {o₀ : Slices} wher
           fit = s .fit;
           li = ma .1;
           lj = mb .1;
-          few = ⊎-elim (λ (d : p ≡ x). omega (arith, s .few, ma .2 d, mb .0)) (λ d. omega (arith, s .few, ma .0, mb .2 (omega arith))) (same-or-not p x);
+          few = ⊎-elim (λ (d : getD (a .clients) i 0 ≡ x). omega (arith, s .few, ma .2 d, mb .0)) (λ d. omega (arith, s .few, ma .0, mb .2 (omega arith))) (same-or-not (getD (a .clients) i 0) x);
           clients = lc ∙ s .clients;
           clocks = lk ∙ s .clocks;
           t = s .t ++ (row x v ∷ []);
@@ -208,9 +214,9 @@ module _ {a : Slices} {n : ℕ} {b : Slices} {m most : ℕ} {o₀ : Slices} wher
         some false true c d n = omega arith
         some false false c d n = absurd (n refl refl)
 
-        larger : suc v ≡ max (weight p x (getD (a .clocks) i 0)) (weight q x (getD (b .clocks) j 0))
-        larger = ap suc (f ∙ ap₂ max (u .clock) (w .clock)) ∙ some (eqb p x) (eqb q x) (getD (a .clocks) i 0) (getD (b .clocks) j 0)
-            (λ t t′. let c : (p ≡ x → ⊥) = eqb-false p x t in let d : (q ≡ x → ⊥) = eqb-false q x t′ in omega arith)
+        larger : suc v ≡ max (weight a i x) (weight b j x)
+        larger = ap suc (f ∙ ap₂ max (u .clock) (w .clock)) ∙ some (eqb (getD (a .clients) i 0) x) (eqb (getD (b .clients) j 0) x) (getD (a .clocks) i 0) (getD (b .clocks) j 0)
+            (λ t t′. let c : (getD (a .clients) i 0 ≡ x → ⊥) = eqb-false _ x t in let d : (getD (b .clients) j 0 ≡ x → ⊥) = eqb-false _ x t′ in omega arith)
 
   -- the first rows, where clients are the same on both sides
   pub uniting-front : {o : Slices} {r : ℕ} → Table (held (a .clients) (a .clocks) n) → Table (held (b .clients) (b .clocks) m) → most ≤ room o₀
@@ -219,30 +225,25 @@ module _ {a : Slices} {n : ℕ} {b : Slices} {m most : ℕ} {o₀ : Slices} wher
   uniting-front {o} ta tb fit p q f (suc h) l =
       subst (λ (i : ℕ). Uniting a n b m most o₀ o i i i) (let z : h + 1 ≡ suc h = omega arith in z)
       (uniting-more (uniting-front ta tb fit p q f h (omega arith)) (omega (arith, f .left)) (omega (arith, f .right)) (omega (arith, f .same .are h l))
-      (same-side a n h refl refl) (same-side b m h refl (f .same .are h l)) refl refl refl
+      (same-side a h refl) (same-side b h (f .same .are h l)) refl refl refl
       (record { there = λ _. sym (two-of (ap (set (o .clients) h) (sym (f .clients .are h l)) ∙ set-getD (o .clients) h 0) (ap (set (o .clocks) h) (sym (f .clocks .are h l)) ∙ set-getD (o .clocks) h 0)) }))
 
   module _ {o : Slices} {i j k : ℕ} (s : Uniting a n b m most o₀ o i j k) where
-    -- nothing is left of the one vector: what is left of the other one stands behind
-    pub united-left : {out : Slices} {l : ℕ} → m ≤ j
-        → Rests most a i n o k out l → Unites (rowsOf n (a .clients) (a .clocks)) (rowsOf m (b .clients) (b .clocks)) most out l
-    unfolding look
-    united-left h r = record {
-      t = s .t ++ span (rowAt a) i (n - i);
-      right = merge-right (rowsOf n (a .clients) (a .clocks)) (rowsOf m (b .clients) (b .clocks)) (s .t ++ span (rowAt a) i (n - i)) (s .part .left) (λ c. look-append (s .t) (span (rowAt a) i (n - i)) c (s .part .left)
-          ∙ omega (arith, s .part .means c, ap (λ (l : List Row). look l c) (span-none (rowAt b) m j h), ap (λ (l : List Row). look l c) (table-span (s .ta)), ap (λ (l : List Row). look l c) (table-span (s .tb))));
-      holds = r .behind (s .t) (s .holds);
+    -- nothing is left of the one vector: what is left of the other one, zs, stands behind
+    united : {out : Slices} {l : ℕ} (zs : List Row) → Rising (s .t ++ zs) → ((c : ℕ) → look (s .t ++ zs) c ≡ max (look (span (rowAt a) 0 n) c) (look (span (rowAt b) 0 m) c))
+        → Holds most out l (s .t ++ zs) → Unites (rowsOf n (a .clients) (a .clocks)) (rowsOf m (b .clients) (b .clocks)) most out l
+    united zs g e h = record {
+      t = s .t ++ zs;
+      right = merge-right (rowsOf n (a .clients) (a .clocks)) (rowsOf m (b .clients) (b .clocks)) (s .t ++ zs) g
+          (λ c. e c ∙ ap₂ (λ (x y : List Row). max (look x c) (look y c)) (sym (table-span (s .ta))) (sym (table-span (s .tb))));
+      holds = h;
     }
 
-    pub united-right : {out : Slices} {l : ℕ} → n ≤ i
-        → Rests most b j m o k out l → Unites (rowsOf n (a .clients) (a .clocks)) (rowsOf m (b .clients) (b .clocks)) most out l
-    unfolding look
-    united-right h r = record {
-      t = s .t ++ span (rowAt b) j (m - j);
-      right = merge-right (rowsOf n (a .clients) (a .clocks)) (rowsOf m (b .clients) (b .clocks)) (s .t ++ span (rowAt b) j (m - j)) (s .part .right) (λ c. look-append (s .t) (span (rowAt b) j (m - j)) c (s .part .right)
-          ∙ omega (arith, s .part .means c, ap (λ (l : List Row). look l c) (span-none (rowAt a) n i h), ap (λ (l : List Row). look l c) (table-span (s .ta)), ap (λ (l : List Row). look l c) (table-span (s .tb))));
-      holds = r .behind (s .t) (s .holds);
-    }
+    pub united-left : {out : Slices} {l : ℕ} → m ≤ j → Rests most a i n o k out l → Unites (rowsOf n (a .clients) (a .clocks)) (rowsOf m (b .clients) (b .clocks)) most out l
+    united-left h r = united (span (rowAt a) i (n - i)) (s .part .left) (whole (s .part) (span-none (rowAt b) m j h)) (r .behind (s .t) (s .holds))
+
+    pub united-right : {out : Slices} {l : ℕ} → n ≤ i → Rests most b j m o k out l → Unites (rowsOf n (a .clients) (a .clocks)) (rowsOf m (b .clients) (b .clocks)) most out l
+    united-right h r = united (span (rowAt b) j (m - j)) (s .part .right) (whole (turned (s .part)) (span-none (rowAt a) n i h)) (r .behind (s .t) (s .holds))
 
 -- ## The order
 
@@ -340,8 +341,8 @@ module _ {a : Slices} {n : ℕ} {b : Slices} {m : ℕ} where
       }
 
   module _ {i j : ℕ} {less greater : Bool} (s : Comparing a n b m i j less greater) where
-    pub comparing-more : {p q x y z i′ j′ : ℕ} → i < n → j < m → x ≡ min p q → Side a n i p x y i′ → Side b m j q x z j′ → Comparing a n b m i′ j′ (less || ltb y z) (greater || ltb z y)
-    comparing-more {p} {q} {x} h l e u w =
+    comparing-more : {x y z i′ j′ : ℕ} → i < n → j < m → x ≡ min (getD (a .clients) i 0) (getD (b .clients) j 0) → Side a i x y i′ → Side b j x z j′ → Comparing a n b m i′ j′ (less || ltb y z) (greater || ltb z y)
+    comparing-more h l e u w =
         let f = side-off u h (omega arith) (s .left) in
         let g = side-off w l (omega arith) (s .right) in
         record {
@@ -360,7 +361,7 @@ module _ {a : Slices} {n : ℕ} {b : Slices} {m : ℕ} where
         → Unders (getD (b .clients) j 0) (getD (b .clocks) j 0) (getD (a .clients) i 0) (getD (a .clocks) i 0) r′ → x ≡ min (getD (a .clients) i 0) (getD (b .clients) j 0)
         → Passes i (getD (a .clients) i 0) x i′ → Passes j (getD (b .clients) j 0) x j′ → Comparing a n b m i′ j′ (less || r) (greater || r′)
     comparing-next {x} {i′} {j′} h l d d′ e u w = subst₂ (λ (f g : Bool). Comparing a n b m i′ j′ (less || f) (greater || g)) (sym (d .is x e)) (sym (d′ .is x (omega arith)))
-        (comparing-more h l e (record { client = refl; clock = refl; next = u }) (record { client = refl; clock = refl; next = w }))
+        (comparing-more h l e (record { clock = refl; next = u }) (record { clock = refl; next = w }))
 
     pub comparing-left : {r : Bool} → m ≤ j → Nulls (a .clocks) i n r → Judges (rowsOf n (a .clients) (a .clocks)) (rowsOf m (b .clients) (b .clocks)) (judged less (greater || r))
     comparing-left {r} h z = judge less (greater || r) (half-right a greater (s .li) (s .left) z (half-at refl (span-none (rowAt b) m j h) (s .high)))
@@ -377,4 +378,4 @@ module _ {a : Slices} {n : ℕ} {b : Slices} {m : ℕ} where
   comparing-front ta tb ln lm e zero l = comparing-none ta tb
   comparing-front ta tb ln lm e (suc h) l =
       subst (λ (i : ℕ). Comparing a n b m i i (anyLess (a .clocks) (b .clocks) (suc h)) (anyLess (b .clocks) (a .clocks) (suc h))) (let z : h + 1 ≡ suc h = omega arith in z)
-      (comparing-more (comparing-front ta tb ln lm e h (omega arith)) (omega arith) (omega arith) (omega (arith, e .are h l)) (same-side a n h refl refl) (same-side b m h refl (e .are h l)))
+      (comparing-more (comparing-front ta tb ln lm e h (omega arith)) (omega arith) (omega arith) (omega (arith, e .are h l)) (same-side a h refl) (same-side b h (e .are h l)))

@@ -1,21 +1,19 @@
 -- Rows that stand in front of the lent slices: one more, zeros behind them, and the answers of a routine that writes them. Assumes nothing.
 use mathlib.Core.Path.{_≡_, refl, ap, ap₂, sym, subst, _∙_}
-use mathlib.Core.Logic.{_⊎_, inl, inr, ⊎-elim}
 use mathlib.Core.List.{List, [], _∷_, _++_, append-nil, append-assoc, map}
-use Prim.Native.Nat.{ℕ, zero, suc, _+_, _-_, _≤_, _<_, min}
+use Prim.Native.Nat.{ℕ, _+_, _-_, _≤_, _<_}
 use native.Mathlib.Omega.{arith}
-use lib.ListN.{length, getD, take, set, replicate, length-append, length-set}
+use lib.ListN.{length, take, set, replicate, length-append}
 use lib.Seq.{getD-set-same, getD-set-other, length-take-le}
-use Rattle.tables.specs.Answers.{Gives, done, full, malformed}
+use Rattle.tables.specs.Answers.{done, full, malformed}
 use Rattle.tables.specs.declared.Made.{Made}
 use Rattle.tables.specs.declared.Made.the-variants as made
-use Rattle.varint.specs.declared.Refusal.the-variants.{Full, Malformed}
+use Rattle.varint.specs.declared.Refusal.the-variants.{Malformed}
 use Rattle.tables.specs.Answers.{saidMade}
-use Rattle.state_vector.specs.Rows.{Row, row, Set}
-use Rattle.state_vector.specs.Vectors.{Slices, two, held, rowsOf, room, most, Table, padded, filled, Writes}
+use Rattle.state_vector.specs.Rows.{Row, row}
+use Rattle.state_vector.specs.Vectors.{Slices, two, rowsOf, room, most, padded, filled, Writes}
 use Rattle.state_vector.specs.Inner.{rowAt, span, Holds, Closes, fits, over, Stores, Rests}
-use Rattle.state_vector.proofs.Looking.{look, same-or-not, length-put-new, length-put-old, set-right}
-use Rattle.state_vector.proofs.Spanning.{length-span, span-snoc, span-append, span-none, span-same, put-found, put-new, rows-span, clients-of, clocks-of, table-span, table-rising, table-climbs, look-none, look-found}
+use Rattle.state_vector.proofs.Spanning.{span-snoc, span-append, span-none, span-same, rows-span, clients-of, clocks-of}
 
 pub row-of : {c d k l : ℕ} → c ≡ d → k ≡ l → row c k ≡ row d l
 row-of p q = λ i. record { client = p i; clock = q i }

@@ -2,7 +2,7 @@
 use mathlib.Core.Path.{_≡_}
 use mathlib.Core.List.{List, [], _∷_, _++_}
 use mathlib.Core.Bool.{cond}
-use Prim.Native.Nat.{ℕ, zero, suc}
+use Prim.Native.Nat.{ℕ, zero, suc, _+_, _≤_}
 use lib.Dec.{eqb, leb}
 use lib.ListN.{length, getD}
 use mir.Syntax.{w32, w64}
@@ -79,3 +79,8 @@ pub data Decodes (bytes : List ℕ) (place : ℕ) (o out : Slices) (d : Decoding
 pub record Typed (o : Slices) : Type 0 where
   pub clients : (j : ℕ) → Fits w64 (getD (o .clients) j 0)
   pub clocks : (j : ℕ) → Fits w32 (getD (o .clocks) j 0)
+
+-- "Decoding what was encoded, with room for it, gives the same rows", and the place past them
+pub record ComesBack (a : Held) (buf : List ℕ) (place : ℕ) (o out : Slices) (r : Decoded) : Type 0 where
+  pub answer : Table a → place + length (encoded (rows a)) ≤ length buf → a .count ≤ most o → r ≡ decoded.Done (a .count) (place + length (encoded (rows a)))
+  pub memory : Table a → place + length (encoded (rows a)) ≤ length buf → a .count ≤ most o → out ≡ filled (rows a) o

@@ -9,8 +9,8 @@ use Rattle.varint.specs.declared.Refusal.the-variants.{Full}
 use Rattle.tables.specs.declared.Made.{Made}
 use Rattle.tables.specs.declared.Made.the-variants as made
 use Rattle.state_vector.specs.Rows.{Row, row, In, at, VectorOf, Merge, Compare}
-use Rattle.state_vector.specs.Vectors.{Slices, two, rowsOf, filled, saidOrder}
-use Rattle.varint.specs.Number.{Written, writeAt}
+use Rattle.state_vector.specs.Vectors.{Slices, two, filled, saidOrder}
+use Rattle.varint.specs.Number.{writeAt}
 use Rattle.varint.specs.Answer.{noOf}
 use Rattle.varint.specs.declared.Refusal.{Refusal}
 use Rattle.state_vector.specs.Bytes.{Pairs, read, stop}

@@ -1,6 +1,6 @@
 -- `state_vector::any_less` meets its contract: the loop goes by `anyLess`. Assumes nothing.
 use native.Mathlib.Omega.{arith}
-use mathlib.Core.Path.{_≡_, refl}
+use mathlib.Core.Path.{_≡_}
 use Prim.Native.Nat.{_-_, _≤_}
 use Rattle.state_vector.specs.Inner.{anyLess}
 use Rattle.state_vector.proofs.Loops.{less-none, less-more, less-all}

@@ -1,6 +1,5 @@
 -- `state_vector::counted` meets its contract. Assumes nothing.
 use borrow.Author.Tests.{eq-eqb, ne-eqb}
-use borrow.Author.Needs.{needs}
 use Rattle.state_vector.proofs.counted.Statement.{statement}
 use Rattle.state_vector.proofs.counted.Tie as tie
 

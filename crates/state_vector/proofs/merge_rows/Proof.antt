@@ -43,7 +43,7 @@ merge-rows-spec =
     (λ c κs. omega (arith, c .before .before .before .before .before .before .before .before .before .before .before .before .before .before .before .before .before .before .loop .inv .tb .few))
     (λ c. let s = c .before .before .before .before .before .before .before .before .before .before .before .before .before .before .before .before .before .before .before .loop .inv in omega (arith, s .few, s .li, s .lj, s .ta .few, s .tb .few))
     (λ c. step-less (c .before .before .before .before .before .before .before .before .before .before .before .before .before .before .before .before .before .before .loop-test .taken) (c .before .before .before .before .before .before .before .before .before .before .before .before .before .before .before .before .before .if1 .left) (c .before .before .before .before .before .before .before .before .before .before .before .before .before .before .lower .ensures) (c .before .passed .ensures) (c .passed2 .ensures))
-    (λ c. uniting-more (c .before .before .before .before .before .before .before .before .before .before .before .before .before .before .before .before .before .before .before .loop .inv) (c .before .before .before .before .before .before .before .before .before .before .before .before .before .before .before .before .before .before .loop-test .taken) (c .before .before .before .before .before .before .before .before .before .before .before .before .before .before .before .before .before .if1 .left) (c .before .before .before .before .before .before .before .before .before .before .before .before .before .before .lower .ensures) (record { client = refl; clock = c .before .before .before .before .before .before .before .before .before .before .before .before .counted .ensures; next = c .before .passed .ensures }) (record { client = refl; clock = c .before .before .before .before .before .before .before .before .before .before .counted2 .ensures; next = c .passed2 .ensures }) (c .before .before .before .before .before .before .before .before .before .larger .ensures) (c .before .before .before .before .before .before .store .kept .0) (c .before .before .before .before .before .before .store .kept .1 .0) (c .before .before .before .before .before .before .store .ensures))
+    (λ c. uniting-more (c .before .before .before .before .before .before .before .before .before .before .before .before .before .before .before .before .before .before .before .loop .inv) (c .before .before .before .before .before .before .before .before .before .before .before .before .before .before .before .before .before .before .loop-test .taken) (c .before .before .before .before .before .before .before .before .before .before .before .before .before .before .before .before .before .if1 .left) (c .before .before .before .before .before .before .before .before .before .before .before .before .before .before .lower .ensures) (record { clock = c .before .before .before .before .before .before .before .before .before .before .before .before .counted .ensures; next = c .before .passed .ensures }) (record { clock = c .before .before .before .before .before .before .before .before .before .before .counted2 .ensures; next = c .passed2 .ensures }) (c .before .before .before .before .before .before .before .before .before .larger .ensures) (c .before .before .before .before .before .before .store .kept .0) (c .before .before .before .before .before .before .store .kept .1 .0) (c .before .before .before .before .before .before .store .ensures))
     (λ c κs. let s = c .before .before .before .loop .inv in (s .tb, (omega (arith, s .fit, s .clients, s .clocks), s .lj, omega (arith, s .few, s .li, s .lj, s .ta .few, s .tb .few))))
     (λ c. search needs)
     (λ c. search needs)

@@ -1,6 +1,5 @@
 -- `state_vector::same_front` meets its contract: the loop goes by `Firsts`. Assumes nothing.
 use native.Mathlib.Omega.{arith}
-use mathlib.Core.Path.{sym}
 use Prim.Native.Nat.{_-_, _≤_}
 use Rattle.state_vector.specs.Inner.{Firsts, element}
 use Rattle.state_vector.proofs.Loops.{firsts-none, firsts-more}

@@ -1,5 +1,4 @@
 -- `state_vector::set_min` meets its contract. Assumes nothing.
-use native.Mathlib.Omega.{arith}
 use borrow.Author.Tests.{not-true, not-false}
 use Rattle.state_vector.specs.Vectors.{two}
 use Rattle.state_vector.proofs.Storing.{refused}

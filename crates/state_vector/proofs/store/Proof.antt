@@ -1,6 +1,5 @@
 -- `state_vector::store` meets its contract. Assumes nothing.
 use native.Mathlib.Omega.{arith}
-use mathlib.Core.Logic.{⊎-elim}
 use Rattle.state_vector.proofs.Storing.{stored, unstored}
 use borrow.Author.Needs.{needs}
 use Rattle.state_vector.proofs.store.Statement.{statement}
