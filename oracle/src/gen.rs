@@ -218,6 +218,30 @@ pub fn all_decodes(s: &Share, see: &mut dyn FnMut(&Case)) {
         see(&c);
     } }
 }
+/// Declared counts about 65,536 and on to 2^32-1, with few pairs behind them, into rooms of 0 to 3 rows.
+pub fn huge_counts(s: &Share, see: &mut dyn FnMut(&Case)) {
+    let tails: [&[u8]; 9] = [&[], &[7], &[7, 1], &[7, 1, 7, 5], &[7, 1, 8, 2], &[7, 1, 8, 2, 9, 3], &[7, 1, 8, 0x80], &[7, 1, 0x80], &[7, 1, 7, 5, 7, 6, 7]];
+    let mut c = Case::of(VecDecode);
+    for (i, n) in HUGE.into_iter().enumerate() {
+        if i as u64 % s.parts != s.p { continue }
+        for tail in tails { for rows in 0..4 { for at in 0..3 {
+            c.bytes = declared(n, tail);
+            c.bytes.splice(0..0, vec![0xff; at]);
+            c.at = at;
+            c.out = room(Kind::Vector, rows, at % 2);
+            see(&c);
+        } } }
+    }
+}
+pub const HUGE: [u32; 12] = [65_535, 65_536, 65_537, 1 << 20, 1 << 24, (1 << 28) - 1, 1 << 28, (1 << 31) - 1, 1 << 31, (1 << 31) + 1, u32::MAX - 1, u32::MAX];
+/// A declared count and what stands behind it.
+pub fn declared(mut n: u32, tail: &[u8]) -> Vec<u8> {
+    let mut b = vec![];
+    while n >= 128 { b.push(n as u8 | 128); n >>= 7 }
+    b.push(n as u8);
+    b.extend_from_slice(tail);
+    b
+}
 /// Tables of any rows at all over four values, with any count: most break the rules.
 pub fn all_malformed(s: &Share, see: &mut dyn FnMut(&Case)) {
     let v = [0u32, 1, 2, u32::MAX];

@@ -91,6 +91,20 @@ pub mod ranges {
 }
 
 /// Id tables: rows (client, start, end) in three slices, and how many rows.
+///
+/// ```
+/// use izgarmulf::{lent::ids, Refusal};
+/// let a = ids::Rows { clients: &[1, 2], starts: &[0, 0], ends: &[3, 4], count: 2 };
+/// let b = ids::Rows { clients: &[1], starts: &[3], ends: &[8], count: 1 };
+/// let (mut clients, mut starts, mut ends) = ([9; 3], [9; 3], [9; 3]);
+/// assert_eq!(ids::merge(a, b, ids::Out { clients: &mut clients, starts: &mut starts, ends: &mut ends }), Ok(2));
+/// assert_eq!((clients, starts, ends), ([1, 2, 0], [0, 0, 0], [8, 4, 0]));
+/// // a count above the length of one slice
+/// assert_eq!(ids::len(ids::Rows { starts: &[0], ..a }), Err(Refusal::Malformed));
+/// // the shortest output slice says how many rows there is room for
+/// assert_eq!(ids::capture(a, ids::Out { clients: &mut clients, starts: &mut starts, ends: &mut ends[..1] }), Err(Refusal::Full));
+/// assert_eq!((clients, starts, ends), ([0; 3], [0; 3], [0, 4, 0]));
+/// ```
 pub mod ids {
     use super::*;
 

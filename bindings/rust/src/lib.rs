@@ -1,6 +1,35 @@
 //! Clock tables, state vectors and their numbers for a shared editor: safe Rust over a library that is proved to meet its promises.
 //!
 //! The names are those of yrs. Where yrs grows a table without bound, this library has a limit and says [`Refusal::Full`]; no input panics.
+//!
+//! | yrs | here |
+//! |---|---|
+//! | `IdRanges<()>`, the clocks of one client | [`IdRanges`]; edits give a `Result` |
+//! | `IdMapInner<()>`, ranges per client | [`IdTable`]; `diff`, `merge` and `intersect` give a new table, as there |
+//! | `StateVector` | [`StateVector`]; at most [`VECTOR_LIMIT`] clients, and its bytes have the clients rising |
+//! | `ClientID`, `ID` | [`ClientID`], which keeps all 64 bits, and [`ID`] |
+//! | `read_var`, `write_var`, `Signed` | [`varint`] |
+//! | `Error::EndOfBuffer`, `Error::InvalidVarInt` | [`Refusal::End`]; [`Refusal::Long`] and [`Refusal::Range`] |
+//! | | [`lent`]: the same operations on the caller's slices, with no allocation |
+//!
+//! ```
+//! use izgarmulf::{ClientID, IdTable, StateVector};
+//! # fn main() -> Result<(), izgarmulf::Refusal> {
+//! // two desks strike out what they see fit, and one hears of the other's
+//! let (ada, ben) = (ClientID::new(11), ClientID::new(12));
+//! let (mut one, mut two) = (IdTable::new(), IdTable::new());
+//! one.insert_range(ada, 0..4)?;
+//! two.insert_range(ada, 4..6)?;
+//! two.insert_range(ben, 8..10)?;
+//! one = one.merge(&two.capture()?)?;
+//! assert_eq!(format!("{one:?}"), "[11: 0..6, 12: 8..10]");
+//! // what the other has not heard of yet
+//! assert_eq!(format!("{:?}", one.diff(&two)?), "[11: 0..4]");
+//! // what a desk has seen, as bytes
+//! let seen = StateVector::from_rows([(ada, 6), (ben, 10)])?;
+//! assert_eq!(seen.encode(), [2, 11, 6, 12, 10]);
+//! # Ok(()) }
+//! ```
 #![warn(missing_docs)]
 #![allow(clippy::len_without_is_empty)]
 
@@ -14,7 +43,6 @@ mod sys {
 mod ids;
 pub mod lent;
 mod state_vector;
-#[allow(missing_docs)]
 pub mod varint;
 
 pub use ids::{IdRanges, IdTable};

@@ -4,7 +4,6 @@ use crate::{ClientID, Refusal, VECTOR_LIMIT};
 use std::cmp::Ordering;
 use std::fmt;
 
-
 /// For each client a clock: at most [`VECTOR_LIMIT`] clients. An absent client reads as 0.
 ///
 /// ```
@@ -92,6 +91,14 @@ impl StateVector {
         Self::decode_at(bytes, 0).map(|r| r.0)
     }
     /// The vector at a place, and the place past it.
+    ///
+    /// ```
+    /// use izgarmulf::{Refusal, StateVector};
+    /// let (v, next) = StateVector::decode_at(&[0xFF, 0x01, 0x07, 0x05, 0x2A], 1).unwrap();
+    /// assert_eq!((format!("{v:?}").as_str(), next), ("[7: 5]", 4));
+    /// // a declared count is not believed before its pairs are there
+    /// assert_eq!(StateVector::decode(&[0xFF, 0xFF, 0xFF, 0xFF, 0x0F]), Err(Refusal::End));
+    /// ```
     pub fn decode_at(bytes: &[u8], at: usize) -> Result<(StateVector, usize), Refusal> {
         Self::made(VECTOR_LIMIT, |out| vectors::decode(bytes, at, out))
     }

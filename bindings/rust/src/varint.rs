@@ -56,10 +56,13 @@ pub trait SignedVarInt: VarInt {
 /// ```
 #[derive(Debug, Clone, Copy, PartialEq, Eq)]
 pub struct Signed<T> {
+    /// The number, its sign included.
     pub value: T,
+    /// The sign that is written: true for minus. Of a number that isn't 0 it must be the number's own.
     pub is_negative: bool,
 }
 impl<T> Signed<T> {
+    /// A number and its sign.
     pub fn new(value: T, is_negative: bool) -> Self {
         Signed { value, is_negative }
     }
@@ -158,10 +161,13 @@ pub fn signed_length(value: i64) -> usize {
 /// Bytes and a place in them. A refused read leaves the place as it was.
 #[derive(Debug, Clone, Copy, PartialEq, Eq)]
 pub struct Cursor<'a> {
+    /// The bytes.
     pub buf: &'a [u8],
+    /// The place of the next number; it may be past the end.
     pub next: usize,
 }
 impl<'a> Cursor<'a> {
+    /// At the start of these bytes.
     pub fn new(buf: &'a [u8]) -> Self {
         Cursor { buf, next: 0 }
     }

@@ -134,6 +134,7 @@ fn main() {
             part("vectors over 3 clients, all", &gen::all_vectors);
             part("tables that break the rules", &gen::all_malformed);
             part("vector bytes over 7 values, all to 7", &gen::all_decodes);
+            part("vectors that declare up to 2^32-1 pairs", &gen::huge_counts);
             if long { part("readers, runs over 80 81 C0 FF and 6 ends, all to 12", &|s, see| gen::runs_over(&[0x80, 0x81, 0xc0, 0xff], s, see)) }
             part("readers, strings of any bytes, all to 3", &gen::short_strings);
             let mut r = Rng(seed ^ (p << 56));

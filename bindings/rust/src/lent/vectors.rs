@@ -1,4 +1,18 @@
 //! State vectors: rows (client, clock) in two slices, and how many rows.
+//!
+//! ```
+//! use izgarmulf::{lent::vectors, ClientID, Refusal};
+//! let v = vectors::Rows { clients: &[1, 300], clocks: &[4, 0], count: 2 };
+//! let mut buf = [0xEE; 8];
+//! assert_eq!(vectors::encode(v, &mut buf, 1), Ok(7));
+//! assert_eq!(buf, [0xEE, 0x02, 0x01, 0x04, 0xAC, 0x02, 0x00, 0xEE]);
+//! let (mut clients, mut clocks) = ([9; 3], [9; 2]);
+//! assert_eq!(vectors::decode(&buf, 1, vectors::Out { clients: &mut clients, clocks: &mut clocks }), Ok((2, 7)));
+//! assert_eq!((clients, clocks), ([1, 300, 0], [4, 0]));
+//! // a third client into room for two
+//! assert_eq!(vectors::set_max(v, ClientID::new(7), 5, vectors::Out { clients: &mut clients, clocks: &mut clocks }), Err(Refusal::Full));
+//! assert_eq!((clients, clocks), ([0; 3], [0; 2]));
+//! ```
 use super::*;
 use std::cmp::Ordering;
 
