@@ -3,7 +3,7 @@ use mathlib.Core.Path.{_≡_, refl, ap, sym, subst, _∙_}
 use mathlib.Core.Logic.{⊎-elim}
 use mathlib.Core.Bool.{Bool, true, false, cond}
 use mathlib.Core.List.{List, [], _∷_}
-use Prim.Native.Nat.{ℕ, suc, _+_, _-_, _≤_, _<_, min}
+use Prim.Native.Nat.{ℕ, zero, suc, _+_, _-_, _≤_, _<_, min}
 use native.Mathlib.Omega.{arith}
 use lib.Dec.{eqb}
 use lib.ListN.{length, getD, set}
@@ -20,23 +20,19 @@ use Rattle.state_vector.proofs.Loops.{climbs-less}
 use Rattle.state_vector.proofs.Storing.{row-of}
 use Rattle.varint.proofs.Writing.{lt-or-ge}
 
-smaller-none : (t : List Row) (c k : ℕ) → look t c ≡ 0 → smaller t c k ≡ k
-unfolding look
-smaller-none [] c k h = refl
-smaller-none (r ∷ t) c k h = pick (eqb c (r .client)) (smaller-none t c k) h
-  where
-    pick : (b : Bool) → (look t c ≡ 0 → smaller t c k ≡ k) → cond b (suc (r .clock)) (look t c) ≡ 0 → cond b (min (r .clock) k) (smaller t c k) ≡ k
-    pick true f e = absurd (let z : ⊥ = omega arith in z)
-    pick false f e = f e
+-- `smaller` by what `look` finds
+abbrev lower : ℕ → ℕ → ℕ
+lower zero k = k
+lower (suc v) k = min v k
 
-smaller-some : (t : List Row) (c k v : ℕ) → look t c ≡ suc v → smaller t c k ≡ min v k
+smaller-look : (t : List Row) (c k : ℕ) → smaller t c k ≡ lower (look t c) k
 unfolding look
-smaller-some [] c k v h = absurd (let z : ⊥ = omega arith in z)
-smaller-some (r ∷ t) c k v h = pick (eqb c (r .client)) (smaller-some t c k v) h
+smaller-look [] c k = refl
+smaller-look (r ∷ t) c k = pick (eqb c (r .client)) (smaller-look t c k)
   where
-    pick : (b : Bool) → (look t c ≡ suc v → smaller t c k ≡ min v k) → cond b (suc (r .clock)) (look t c) ≡ suc v → cond b (min (r .clock) k) (smaller t c k) ≡ min v k
-    pick true f e = ap (λ (x : ℕ). min x k) (let z : r .clock ≡ v = omega arith in z)
-    pick false f e = f e
+    pick : (b : Bool) → smaller t c k ≡ lower (look t c) k → cond b (min (r .clock) k) (smaller t c k) ≡ lower (cond b (suc (r .clock)) (look t c)) k
+    pick true e = refl
+    pick false e = e
 
 module _ {cs ks : List ℕ} {n c i : ℕ} (t : Table (held cs ks n)) (f : Finds cs n c i) where
   has : Stands cs n i c → look (rowsOf n cs ks) c ≡ suc (getD ks i 0)
@@ -58,10 +54,10 @@ module _ {cs ks : List ℕ} {n c i : ℕ} (t : Table (held cs ks n)) (f : Finds 
   clock-none h = omega (arith, lacks h, at-look (rowsOf n cs ks) c)
 
   pub smaller-here : (k r : ℕ) → Stands cs n i c → r ≡ min (getD ks i 0) k → r ≡ smaller (rowsOf n cs ks) c k
-  smaller-here k r s q = q ∙ sym (smaller-some (rowsOf n cs ks) c k (getD ks i 0) (has s))
+  smaller-here k r s q = q ∙ sym (smaller-look (rowsOf n cs ks) c k ∙ ap (λ (v : ℕ). lower v k) (has s))
 
   pub smaller-absent : (k : ℕ) → (Stands cs n i c → ⊥) → k ≡ smaller (rowsOf n cs ks) c k
-  smaller-absent k h = sym (smaller-none (rowsOf n cs ks) c k (lacks h))
+  smaller-absent k h = sym (smaller-look (rowsOf n cs ks) c k ∙ ap (λ (v : ℕ). lower v k) (lacks h))
 
   -- ## A row put there
 

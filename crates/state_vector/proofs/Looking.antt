@@ -8,6 +8,7 @@ use native.Mathlib.Omega.{arith}
 use borrow.Author.Tests.{ltb-true, ltb-false, eqb-true, eqb-false, eq-eqb, ne-eqb, lt-ltb, le-ltb}
 use lib.Dec.{eqb, ltb}
 use lib.ListN.{length}
+use Rattle.varint.proofs.Writing.{lt-or-ge}
 use Rattle.state_vector.specs.Rows.{Row, row, In, at, First, Rising, VectorOf, Set, Merge}
 use Rattle.state_vector.specs.Inner.{put}
 
@@ -51,6 +52,10 @@ unfolding look
 look-in [] c h = absurd (let z : ⊥ = omega arith in z)
 look-in (r ∷ t) c h = ⊎-elim (λ e. inl e) (λ n. inr (look-in t c (subst (λ (v : ℕ). 0 < v) (look-past r t c n) h))) (same-or-not c (r .client))
 
+pub first-same : (r s : Row) (t : List Row) → r .client ≡ s .client → First s t → First r t
+first-same r s [] e f = tt
+first-same r s (q ∷ t) e f = omega arith
+
 -- clients before the first are absent
 pub over : (r : Row) (t : List Row) (c : ℕ) → c ≤ r .client → First r t → Rising t → look t c ≡ 0
 unfolding look
@@ -60,16 +65,9 @@ over r (s ∷ t) c h f g = look-past s t c (λ e. omega arith) ∙ over s t c (o
 -- ## There is one
 
 unique-step : (r s : Row) (t u : List Row) → Rising (r ∷ t) → Rising (s ∷ u) → ((c : ℕ) → look (r ∷ t) c ≡ look (s ∷ u) c) → s .client ≤ r .client
-unique-step r s t u g h f = ⊎-elim (λ e. omega arith) (λ n. ⊎-elim (λ l. l) (λ (l : r .client < s .client).
-    absurd (let z : ⊥ = omega (arith, look-here r t (r .client) refl, f (r .client), look-past s u (r .client) n, over s u (r .client) (omega arith) (h .0) (h .1)) in z))
-    (le-or-gt (s .client) (r .client))) (same-or-not (r .client) (s .client))
-  where
-    le-or-gt : (a b : ℕ) → (a ≤ b) ⊎ (b < a)
-    le-or-gt a b = go (ltb b a) refl
-      where
-        go : (t : Bool) → ltb b a ≡ t → (a ≤ b) ⊎ (b < a)
-        go true e = inr (omega (arith, ltb-true b a e))
-        go false e = inl (omega (arith, ltb-false b a e))
+unique-step r s t u g h f = ⊎-elim (λ (l : r .client < s .client).
+    absurd (let z : ⊥ = omega (arith, look-here r t (r .client) refl, f (r .client), look-past s u (r .client) (λ e. omega arith), over s u (r .client) (omega arith) (h .0) (h .1)) in z))
+    (λ l. l) (lt-or-ge (r .client) (s .client))
 
 pub unique : (t u : List Row) → Rising t → Rising u → ((c : ℕ) → look t c ≡ look u c) → t ≡ u
 unfolding look
@@ -173,10 +171,6 @@ pub put-rising : (r : Row) (t : List Row) → Rising t → Rising (put r t)
 unfolding put
 put-rising r [] g = (tt, tt)
 put-rising r (s ∷ t) g = put-ways r s t Rising (λ h. (h, g)) (λ h. (first-same r s t h (g .0), g .1)) (λ h. (first-put s r t h (g .0), put-rising r t (g .1)))
-  where
-    first-same : (r s : Row) (t : List Row) → r .client ≡ s .client → First s t → First r t
-    first-same r s [] e f = tt
-    first-same r s (q ∷ t) e f = omega arith
 
 pub length-put-new : (r : Row) (t : List Row) → Rising t → look t (r .client) ≡ 0 → length (put r t) ≡ suc (length t)
 unfolding put

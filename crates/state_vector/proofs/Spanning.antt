@@ -123,30 +123,22 @@ module _ (f g : ℕ → Row) (r : Row) (i n : ℕ) (below : (j : ℕ) → j < i 
 
 -- ## Two slices
 
-shift : (c k : ℕ) (cs ks : List ℕ) (i n : ℕ) → span (rowAt (two (c ∷ cs) (k ∷ ks))) (suc i) n ≡ span (rowAt (two cs ks)) i n
-unfolding span
-shift c k cs ks i zero = refl
-shift c k cs ks i (suc n) = ap (λ (l : List Row). rowAt (two cs ks) i ∷ l) (shift c k cs ks (suc i) n)
-
 pub rows-span : (n : ℕ) (cs ks : List ℕ) → n ≤ length cs → n ≤ length ks → rowsOf n cs ks ≡ span (rowAt (two cs ks)) 0 n
 unfolding span
 rows-span zero cs ks g h = refl
 rows-span (suc n) [] ks g h = absurd (not-suc-le-zero g)
 rows-span (suc n) (c ∷ cs) [] g h = absurd (not-suc-le-zero h)
-rows-span (suc n) (c ∷ cs) (k ∷ ks) g h = ap (λ (l : List Row). row c k ∷ l) (rows-span n cs ks (le-of-suc-le-suc g) (le-of-suc-le-suc h) ∙ sym (shift c k cs ks 0 n))
+rows-span (suc n) (c ∷ cs) (k ∷ ks) g h = ap (λ (l : List Row). row c k ∷ l) (rows-span n cs ks (le-of-suc-le-suc g) (le-of-suc-le-suc h) ∙ span-moved (rowAt (two cs ks)) (rowAt (two (c ∷ cs) (k ∷ ks))) 0 n (λ j _ _. refl))
 
 -- the columns of the rows
-pub clients-of : (n : ℕ) (cs ks : List ℕ) → n ≤ length cs → n ≤ length ks → map (λ (r : Row). r .client) (rowsOf n cs ks) ≡ take n cs
-clients-of zero cs ks g h = refl
-clients-of (suc n) [] ks g h = absurd (not-suc-le-zero g)
-clients-of (suc n) (c ∷ cs) [] g h = absurd (not-suc-le-zero h)
-clients-of (suc n) (c ∷ cs) (k ∷ ks) g h = ap (λ (l : List ℕ). c ∷ l) (clients-of n cs ks (le-of-suc-le-suc g) (le-of-suc-le-suc h))
-
-pub clocks-of : (n : ℕ) (cs ks : List ℕ) → n ≤ length cs → n ≤ length ks → map (λ (r : Row). r .clock) (rowsOf n cs ks) ≡ take n ks
-clocks-of zero cs ks g h = refl
-clocks-of (suc n) [] ks g h = absurd (not-suc-le-zero g)
-clocks-of (suc n) (c ∷ cs) [] g h = absurd (not-suc-le-zero h)
-clocks-of (suc n) (c ∷ cs) (k ∷ ks) g h = ap (λ (l : List ℕ). k ∷ l) (clocks-of n cs ks (le-of-suc-le-suc g) (le-of-suc-le-suc h))
+pub columns : (n : ℕ) (cs ks : List ℕ) → n ≤ length cs → n ≤ length ks
+    → (map (λ (r : Row). r .client) (rowsOf n cs ks) ≡ take n cs) × (map (λ (r : Row). r .clock) (rowsOf n cs ks) ≡ take n ks)
+columns zero cs ks g h = (refl, refl)
+columns (suc n) [] ks g h = absurd (not-suc-le-zero g)
+columns (suc n) (c ∷ cs) [] g h = absurd (not-suc-le-zero h)
+columns (suc n) (c ∷ cs) (k ∷ ks) g h =
+    let i = columns n cs ks (le-of-suc-le-suc g) (le-of-suc-le-suc h) in
+    (ap (λ (l : List ℕ). c ∷ l) (i .0), ap (λ (l : List ℕ). k ∷ l) (i .1))
 
 -- ## A table by its indices
 

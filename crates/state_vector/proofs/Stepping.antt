@@ -12,7 +12,7 @@ use lib.Seq.{set-getD}
 use Rattle.state_vector.specs.Rows.{Row, row, at, First, Rising, Below}
 use Rattle.state_vector.specs.Vectors.{Slices, held, rowsOf, room, Table}
 use Rattle.state_vector.specs.Inner.{rowAt, span, Holds, Firsts, element, Stores, Passes, Rests, Fronts, Unites, Nulls, anyLess, Unders, judged, Judges}
-use Rattle.state_vector.proofs.Looking.{look, look-here, look-past, same-or-not, at-look, over, look-append, between, merge-right}
+use Rattle.state_vector.proofs.Looking.{look, look-here, look-past, same-or-not, at-look, first-same, over, look-append, between, merge-right}
 use Rattle.state_vector.proofs.Spanning.{span-cons, span-none, table-span, table-rising}
 use Rattle.state_vector.proofs.Storing.{two-of, holds-none, holds-store}
 
@@ -34,14 +34,10 @@ module _ (f : ℕ → Row) (n i x : ℕ) (h : i < n) (least : x ≤ f i .client)
         here = look-here (f i) _ x e;
         gone = over (f i) _ x (omega arith) (r .0) (r .1);
         other = λ c q. look-past (f i) _ c (λ z. q (z ∙ sym e));
-        first = λ k. first-same (span f (i + 1) (n - (i + 1))) (f i) (row x k) (sym e) (r .0);
+        first = λ k. first-same (row x k) (f i) (span f (i + 1) (n - (i + 1))) e (r .0);
         rising = r .1;
         head = λ _. (f i, span f (i + 1) (n - (i + 1)), refl, sym e);
       }
-    where
-      first-same : (l : List Row) (r s : Row) → r .client ≡ s .client → First r l → First s l
-      first-same [] r s e q = tt
-      first-same (p ∷ l) r s e q = omega arith
 
   left-on : (x ≡ f i .client → ⊥) → Off x 0 (f i ∷ span f (i + 1) (n - (i + 1))) (f i ∷ span f (i + 1) (n - (i + 1)))
   left-on e =

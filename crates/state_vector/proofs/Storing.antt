@@ -13,7 +13,7 @@ use Rattle.tables.specs.Answers.{saidMade}
 use Rattle.state_vector.specs.Rows.{Row, row}
 use Rattle.state_vector.specs.Vectors.{Slices, two, rowsOf, room, most, padded, filled, Writes}
 use Rattle.state_vector.specs.Inner.{rowAt, span, Holds, Closes, fits, over, Stores, Rests}
-use Rattle.state_vector.proofs.Spanning.{span-snoc, span-append, span-none, span-same, rows-span, clients-of, clocks-of}
+use Rattle.state_vector.proofs.Spanning.{span-snoc, span-append, span-none, span-same, rows-span, columns}
 
 pub row-of : {c d k l : ℕ} → c ≡ d → k ≡ l → row c k ≡ row d l
 row-of p q = λ i. record { client = p i; clock = q i }
@@ -96,7 +96,7 @@ cleared cs ks xs ys p q = two-of (p ∙ all cs) (q ∙ all ks)
 
 pub closed : (cs ks : List ℕ) (k : ℕ) (xs ys : List ℕ) → k ≤ room (two cs ks) → xs ≡ take k cs ++ replicate (length cs - k) 0 → ys ≡ take k ks ++ replicate (length ks - k) 0
     → two xs ys ≡ filled (span (rowAt (two cs ks)) 0 k) (two cs ks)
-closed cs ks k xs ys h p q = two-of (p ∙ pad cs (λ (r : Row). r .client) (clients-of k cs ks (omega arith) (omega arith)) (omega arith)) (q ∙ pad ks (λ (r : Row). r .clock) (clocks-of k cs ks (omega arith) (omega arith)) (omega arith))
+closed cs ks k xs ys h p q = two-of (p ∙ pad cs (λ (r : Row). r .client) (columns k cs ks (omega arith) (omega arith) .0) (omega arith)) (q ∙ pad ks (λ (r : Row). r .clock) (columns k cs ks (omega arith) (omega arith) .1) (omega arith))
   where
     pad : (l : List ℕ) (f : Row → ℕ) → map f (rowsOf k cs ks) ≡ take k l → k ≤ length l → take k l ++ replicate (length l - k) 0 ≡ padded (length l) (map f (span (rowAt (two cs ks)) 0 k))
     pad l f e b =
