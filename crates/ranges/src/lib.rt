@@ -10,7 +10,7 @@ ghost use Rattle.tables.specs.Inner.Sweep.{Holds};
 ghost use Rattle.tables.specs.Inner.Unite.{Passed, Ended, Counted, Starts, Ends, Last, Adds, United};
 ghost use Rattle.tables.specs.Inner.Cross.{Keeps};
 ghost use Rattle.tables.specs.Inner.Differ.{GapStart, GapEnd};
-ghost use Rattle.tables.specs.Inner.Ends.{Stores, Dropped, Raised, Below, Above, Halves};
+ghost use Rattle.tables.specs.Inner.Ends.{Stores, Dropped, Raised, Below, Above, Halves, GapsFrom, GapsTo};
 ghost use Rattle.tables.specs.Inner.Edit.{range, Advanced, Parted, starts, ends, Starting, Ending, Moved, Stands};
 ghost use Rattle.ranges.specs.Tables.{most, Merged, Excluded, Intersected, Inserted, Removed, FromRanges, ContainsClock, FindStart, ClockStart, ClockEnd, Len, IsEmpty, Get};
 ghost use Rattle.ranges.specs.Inner.{rowAt, rowsOf, Ruled, Wrote};
@@ -567,6 +567,8 @@ pub fn merge(a: &[u32], n: usize, b: &[u32], m: usize, out: &mut [u32]) -> table
     finish(out, k)
 }
 
+// ## Two walks at once, from below and from above, until they meet: neither waits for the rows that the other reads next. Both lay rows in the output, and those from above are brought down at the end.
+
 // The row x, .., y - 1 as row `k`, while there is room.
 fn lay(out: &mut [u32], most: usize, k: usize, x: u32, y: u32)
     requires { ⌜ 2 * most ≤ length (now out) ⌝ }
@@ -587,63 +589,6 @@ fn keep(out: &mut [u32], most: usize, k: usize, x: u32, y: u32) -> usize
 {
     lay(out, most, k, x, y);
     if x < y { k + 1 } else { k }
-}
-
-// Where the gap before row `j` starts: behind the row before.
-fn gap_start(b: &[u32], j: usize) -> u32
-    requires { ⌜ 2 * j ≤ length (now b) ⌝ }
-    ensures { λ r. ⌜ GapStart (rowAt (now (b .entry))) j r ⌝ }
-{
-    if j == 0 {
-        return 0;
-    }
-    end_at(b, j - 1)
-}
-
-// Where the gap before row `j` ends. Behind the last of the `m` rows there is a gap too.
-fn gap_end(b: &[u32], m: usize, j: usize) -> u32
-    requires { ⌜ 2 * m ≤ length (now b) ⌝ }
-    ensures { λ r. ⌜ GapEnd 4294967295 (rowAt (now (b .entry))) m j r ⌝ }
-{
-    if j < m {
-        return start_at(b, j);
-    }
-    4294967295
-}
-
-// The rows of the difference, a row a step: those of the intersection of `a` with the gaps of `b`. While a row is left, so is a gap.
-fn differ(a: &[u32], n: usize, b: &[u32], m: usize, out: &mut [u32], most: usize) -> usize
-    requires { ⌜ Ruled (now a) n ⌝ }
-    requires { ⌜ Ruled (now b) m ⌝ }
-    requires { ⌜ 2 * most ≤ length (now out) ⌝ }
-    ensures { λ r. ⌜ Holds most (rowAt (now (out .exit))) r (combined difference (rowsOf (now (a .entry)) n) (rowsOf (now (b .entry)) m)) ⌝ }
-{
-    let mut i: usize = 0;
-    let mut j: usize = 0;
-    let mut k: usize = 0;
-    while i < n {
-        let p = end_at(a, i);
-        let q = gap_end(b, m, j);
-        let x = higher(start_at(a, i), gap_start(b, j));
-        let y = lower(p, q);
-        i = passed(i, p, y);
-        j = passed(j, q, y);
-        k = keep(out, most, k, x, y);
-    }
-    k
-}
-
-// Difference.
-pub fn exclude(a: &[u32], n: usize, b: &[u32], m: usize, out: &mut [u32]) -> tables::Made
-    ensures { λ r. ⌜ Excluded (now (a .entry)) n (now (b .entry)) m (length (now (out .entry))) (now (out .exit)) r ⌝ }
-{
-    if !both(a, n, b, m) {
-        tables::zero(out);
-        return tables::Made::Refused(varint::Refusal::Malformed);
-    }
-    let most = room(out.len());
-    let k = differ(a, n, b, m, out, most);
-    finish(out, k)
 }
 
 // How far the walk from below has come: `i` and `j` rows are passed and `k` are laid.
@@ -722,9 +667,9 @@ fn down(out: &mut [u32], z: High, p: Piece, q: Piece) -> High
 
 // Whether both walks can go on by a row, and there is room for both.
 fn apart(w: Low, z: High) -> bool
-    requires { ⌜ w .i ≤ rowLimit ⌝ }
-    requires { ⌜ w .j ≤ rowLimit ⌝ }
-    requires { ⌜ w .k ≤ 2 * rowLimit ⌝ }
+    requires { ⌜ w .i ≤ 2 * rowLimit + 1 ⌝ }
+    requires { ⌜ w .j ≤ 2 * rowLimit + 1 ⌝ }
+    requires { ⌜ w .k ≤ 2 * rowLimit + 1 ⌝ }
     ensures { λ r. ⌜ Says ((w .i + 1 < z .u) × (w .j + 1 < z .v) × (w .k + 1 < z .t)) r ⌝ }
 {
     let i = w.i + 1;
@@ -759,7 +704,7 @@ fn between(w: Low, z: High) -> bool
 fn settle(out: &mut [u32], most: usize, k: usize, t: usize) -> usize
     requires { ⌜ 2 * most ≤ length (now out) ⌝ }
     requires { ⌜ t ≤ most ⌝ }
-    requires { ⌜ k ≤ 2 * rowLimit ⌝ }
+    requires { ⌜ k ≤ 2 * rowLimit + 1 ⌝ }
     ensures { λ r. ⌜ ((rs : Rows) → Halves most (rowAt (now (out .entry))) k t rs → Holds most (rowAt (now (out .exit))) r rs) ⌝ }
 {
     let r = k + (most - t);
@@ -770,7 +715,136 @@ fn settle(out: &mut [u32], most: usize, k: usize, t: usize) -> usize
     r
 }
 
-// The rows of the intersection, as many as there is room for, and how many there are. Two walks in one loop, from below and from above, hide each other's wait for the next rows.
+// Where the gap before row `j` starts: behind the row before.
+fn gap_start(b: &[u32], j: usize) -> u32
+    requires { ⌜ 2 * j ≤ length (now b) ⌝ }
+    ensures { λ r. ⌜ GapStart (rowAt (now (b .entry))) j r ⌝ }
+{
+    if j == 0 {
+        return 0;
+    }
+    end_at(b, j - 1)
+}
+
+// Where the gap before row `j` ends. Behind the last of the `m` rows there is a gap too.
+fn gap_end(b: &[u32], m: usize, j: usize) -> u32
+    requires { ⌜ 2 * m ≤ length (now b) ⌝ }
+    ensures { λ r. ⌜ GapEnd 4294967295 (rowAt (now (b .entry))) m j r ⌝ }
+{
+    if j < m {
+        return start_at(b, j);
+    }
+    4294967295
+}
+
+// The gap before row `j`.
+fn gap_at(b: &[u32], m: usize, j: usize) -> Piece
+    requires { ⌜ 2 * m ≤ length (now b) ⌝ }
+    requires { ⌜ j ≤ m ⌝ }
+    ensures { λ r. ⌜ GapStart (rowAt (now (b .entry))) j (r .start) ⌝ }
+    ensures { λ r. ⌜ GapEnd 4294967295 (rowAt (now (b .entry))) m j (r .end) ⌝ }
+{
+    Piece {
+        start: gap_start(b, j),
+        end: gap_end(b, m, j),
+    }
+}
+
+// The same, where it is not the last: one test less.
+fn gap_low(b: &[u32], m: usize, j: usize) -> Piece
+    requires { ⌜ 2 * m ≤ length (now b) ⌝ }
+    requires { ⌜ j < m ⌝ }
+    ensures { λ r. ⌜ GapStart (rowAt (now (b .entry))) j (r .start) ⌝ }
+    ensures { λ r. ⌜ GapEnd 4294967295 (rowAt (now (b .entry))) m j (r .end) ⌝ }
+{
+    Piece {
+        start: gap_start(b, j),
+        end: start_at(b, j),
+    }
+}
+
+// The same, where it is not the first.
+fn gap_high(b: &[u32], m: usize, j: usize) -> Piece
+    requires { ⌜ 2 * m ≤ length (now b) ⌝ }
+    requires { ⌜ 0 < j ⌝ }
+    requires { ⌜ j ≤ m ⌝ }
+    ensures { λ r. ⌜ GapStart (rowAt (now (b .entry))) j (r .start) ⌝ }
+    ensures { λ r. ⌜ GapEnd 4294967295 (rowAt (now (b .entry))) m j (r .end) ⌝ }
+{
+    Piece {
+        start: end_at(b, j - 1),
+        end: gap_end(b, m, j),
+    }
+}
+
+// The first gap that is not empty: a row that starts at 0 has none before it.
+fn gaps_from(b: &[u32], m: usize) -> usize
+    requires { ⌜ 2 * m ≤ length (now b) ⌝ }
+    ensures { λ r. ⌜ GapsFrom (rowAt (now (b .entry))) m r ⌝ }
+{
+    if m == 0 {
+        return 0;
+    }
+    if 0 < start_at(b, 0) {
+        return 0;
+    }
+    1
+}
+
+// Behind the last gap that is not empty: a row that ends at 4294967295 has none behind it.
+fn gaps_to(b: &[u32], m: usize) -> usize
+    requires { ⌜ 2 * m ≤ length (now b) ⌝ }
+    requires { ⌜ m ≤ rowLimit ⌝ }
+    ensures { λ r. ⌜ GapsTo 4294967295 (rowAt (now (b .entry))) m r ⌝ }
+{
+    if m == 0 {
+        return 1;
+    }
+    if end_at(b, m - 1) < 4294967295 {
+        return m + 1;
+    }
+    m
+}
+
+// The rows of the difference: those of the intersection of `a` with the gaps of `b`.
+fn differ(a: &[u32], n: usize, b: &[u32], m: usize, out: &mut [u32], most: usize) -> usize
+    requires { ⌜ Ruled (now a) n ⌝ }
+    requires { ⌜ Ruled (now b) m ⌝ }
+    requires { ⌜ 2 * most ≤ length (now out) ⌝ }
+    ensures { λ r. ⌜ Holds most (rowAt (now (out .exit))) r (combined difference (rowsOf (now (a .entry)) n) (rowsOf (now (b .entry)) m)) ⌝ }
+{
+    let lo = gaps_from(b, m);
+    let hi = gaps_to(b, m);
+    let mut w = Low { i: 0, j: 0, k: 0 };
+    let mut z = High {
+        u: n,
+        v: hi - lo,
+        t: most,
+    };
+    while apart(w, z) {
+        w = up(out, z.t, w, row_at(a, w.i), gap_low(b, m, lo + w.j));
+        z = down(out, z, row_at(a, z.u - 1), gap_high(b, m, lo + (z.v - 1)));
+    }
+    while between(w, z) {
+        w = up(out, z.t, w, row_at(a, w.i), gap_at(b, m, lo + w.j));
+    }
+    settle(out, most, w.k, z.t)
+}
+
+// Difference.
+pub fn exclude(a: &[u32], n: usize, b: &[u32], m: usize, out: &mut [u32]) -> tables::Made
+    ensures { λ r. ⌜ Excluded (now (a .entry)) n (now (b .entry)) m (length (now (out .entry))) (now (out .exit)) r ⌝ }
+{
+    if !both(a, n, b, m) {
+        tables::zero(out);
+        return tables::Made::Refused(varint::Refusal::Malformed);
+    }
+    let most = room(out.len());
+    let k = differ(a, n, b, m, out, most);
+    finish(out, k)
+}
+
+// The rows of the intersection, as many as there is room for, and how many there are.
 fn cross(a: &[u32], n: usize, b: &[u32], m: usize, out: &mut [u32], most: usize) -> usize
     requires { ⌜ Ruled (now a) n ⌝ }
     requires { ⌜ Ruled (now b) m ⌝ }

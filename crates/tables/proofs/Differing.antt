@@ -36,12 +36,12 @@ pub record Differing (cap : ℕ) (ra : ℕ → Row) (n i : ℕ) (rb : ℕ → Ro
   pub place : ℕ
   pub differed : Differed cap ra n i rb m j room row k place
 
-none-left : (w : ℕ) → difference 0 w ≡ 0
+pub none-left : (w : ℕ) → difference 0 w ≡ 0
 unfolding difference
 none-left zero = refl
 none-left (suc w) = refl
 
-taken : (v : ℕ) → difference v 1 ≡ 0
+pub taken : (v : ℕ) → difference v 1 ≡ 0
 unfolding difference
 taken v = refl
 

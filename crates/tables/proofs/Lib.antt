@@ -21,3 +21,4 @@ pub mod Inserting
 pub mod Placing
 pub mod Viewing
 pub mod Meeting
+pub mod Gaps

@@ -118,7 +118,7 @@ module _ (row : ℕ → Row) (n : ℕ) (t : Plain row n) where
       (split j n)
 
   -- between two rows there is nothing
-  hole : (j z : ℕ) → j ≤ n → ((w : ℕ) → suc w ≡ j → row w .end ≤ z) → (j < n → z < row j .start) → at (span row 0 n) z ≡ 0
+  pub hole : (j z : ℕ) → j ≤ n → ((w : ℕ) → suc w ≡ j → row w .end ≤ z) → (j < n → z < row j .start) → at (span row 0 n) z ≡ 0
   hole zero z h f g = ap (λ (k : ℕ). at (span row 0 k) z) (let e : n ≡ n - 0 = omega arith in e) ∙ none-before 0 z g
   hole (suc w) z h f g =
       let e : 0 + w ≡ w = omega arith in

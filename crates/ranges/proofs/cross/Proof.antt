@@ -3,7 +3,7 @@ use Prim.Native.Nat.{_+_, _-_}
 use native.Mathlib.Omega.{arith}
 use lib.ListN.{length}
 use Rattle.tables.proofs.Meeting.{Meeting, meeting-none, meeting-turn, meeting-rest, meeting-less, below-less, meeting-halves}
-use Rattle.ranges.proofs.Walking.{bounds, row-in}
+use Rattle.ranges.proofs.Walking.{bounds, bounds-step, row-in}
 use Rattle.ranges.specs.Inner.{rowAt}
 use Rattle.ranges.proofs.Editing.{ruled-plain}
 use borrow.Author.Needs.{needs}
@@ -34,7 +34,7 @@ loop-holds : tie.Need-loop-holds Inv-loop μ-loop Inv-loop2 μ-loop2
 loop-holds c = (refl, meeting-none _ _ _ _ _ (ruled-plain (c .before .before .before .pre .0)) (ruled-plain (c .before .before .before .pre .1 .0)) _)
 
 apart-requires : tie.Need-apart-requires Inv-loop μ-loop Inv-loop2 μ-loop2
-apart-requires c κs = bounds (c .before .before .before .before .pre .0) (c .before .before .before .before .pre .1 .0) (c .loop .inv .1)
+apart-requires c κs = bounds (c .before .before .before .before .pre .0 .few) (omega (arith, c .before .before .before .before .pre .1 .0 .few)) (c .loop .inv .1)
 
 row-at-requires : tie.Need-row-at-requires Inv-loop μ-loop Inv-loop2 μ-loop2
 row-at-requires c κs = row-in (c .before .before .before .before .before .before .before .pre .0) (c .before .before .before .loop .inv .1 .one .within) (omega (arith, (c .before .before .apart .ensures .right (c .before .if1 .taken)) .0))
@@ -43,7 +43,7 @@ row-at-requires-2 : tie.Need-row-at-requires-2 Inv-loop μ-loop Inv-loop2 μ-loo
 row-at-requires-2 c κs = row-in (c .before .before .before .before .before .before .before .before .pre .1 .0) (c .before .before .before .before .loop .inv .1 .two .within) (omega (arith, (c .before .before .before .apart .ensures .right (c .before .before .if1 .taken)) .1))
 
 up-requires : tie.Need-up-requires Inv-loop μ-loop Inv-loop2 μ-loop2
-up-requires c κs = (omega (arith, c .before .before .before .before .before .before .before .before .before .pre .1 .1, c .before .before .before .before .before .loop .inv .0, c .before .before .before .before .before .loop .inv .1 .within), bounds (c .before .before .before .before .before .before .before .before .before .pre .0) (c .before .before .before .before .before .before .before .before .before .pre .1 .0) (c .before .before .before .before .before .loop .inv .1))
+up-requires c κs = (omega (arith, c .before .before .before .before .before .before .before .before .before .pre .1 .1, c .before .before .before .before .before .loop .inv .0, c .before .before .before .before .before .loop .inv .1 .within), bounds-step (c .before .before .before .before .before .before .before .before .before .pre .0 .few) (omega (arith, c .before .before .before .before .before .before .before .before .before .pre .1 .0 .few)) (omega (arith, (c .before .before .before .before .apart .ensures .right (c .before .before .before .if1 .taken)) .0)) (omega (arith, (c .before .before .before .before .apart .ensures .right (c .before .before .before .if1 .taken)) .1)) (c .before .before .before .before .before .loop .inv .1))
 
 sub-row-at : tie.Need-sub-row-at Inv-loop μ-loop Inv-loop2 μ-loop2
 sub-row-at c = omega (arith, (c .before .before .before .before .before .before .before .before .before .apart .ensures .right (c .before .before .before .before .before .before .before .before .if1 .taken)) .0)
@@ -79,7 +79,7 @@ row-at-requires-6 : tie.Need-row-at-requires-6 Inv-loop μ-loop Inv-loop2 μ-loo
 row-at-requires-6 c κs = row-in (c .before .before .before .before .before .before .before .before .before .before .before .pre .1 .0) (c .before .before .before .before .loop2 .inv .1 .two .within) ((c .before .before .before .between .ensures .right (c .before .before .if2 .taken)) .1)
 
 up-requires-2 : tie.Need-up-requires-2 Inv-loop μ-loop Inv-loop2 μ-loop2
-up-requires-2 c κs = (omega (arith, c .before .before .before .before .before .before .before .before .before .before .before .before .pre .1 .1, c .before .before .before .before .before .before .before .before .loop .inv .0, c .before .before .before .before .before .loop2 .inv .0, c .before .before .before .before .before .loop2 .inv .1 .within), bounds (c .before .before .before .before .before .before .before .before .before .before .before .before .pre .0) (c .before .before .before .before .before .before .before .before .before .before .before .before .pre .1 .0) (c .before .before .before .before .before .loop2 .inv .1))
+up-requires-2 c κs = (omega (arith, c .before .before .before .before .before .before .before .before .before .before .before .before .pre .1 .1, c .before .before .before .before .before .before .before .before .loop .inv .0, c .before .before .before .before .before .loop2 .inv .0, c .before .before .before .before .before .loop2 .inv .1 .within), bounds-step (c .before .before .before .before .before .before .before .before .before .before .before .before .pre .0 .few) (omega (arith, c .before .before .before .before .before .before .before .before .before .before .before .before .pre .1 .0 .few)) ((c .before .before .before .before .between .ensures .right (c .before .before .before .if2 .taken)) .0) ((c .before .before .before .before .between .ensures .right (c .before .before .before .if2 .taken)) .1) (c .before .before .before .before .before .loop2 .inv .1))
 
 loop2-less : tie.Need-loop2-less Inv-loop μ-loop Inv-loop2 μ-loop2
 loop2-less c = below-less (c .before .before .before .before .before .before .before .between .ensures .right (c .before .before .before .before .before .before .if2 .taken)) (c .before .before .up2 .ensures)
@@ -88,7 +88,7 @@ loop2-again : tie.Need-loop2-again Inv-loop μ-loop Inv-loop2 μ-loop2
 loop2-again c = (c .before .before .up2 .kept .0 ∙ c .before .before .before .before .before .before .before .before .loop2 .inv .0, meeting-rest _ _ _ _ _ (ruled-plain (c .before .before .before .before .before .before .before .before .before .before .before .before .before .before .before .pre .0)) (ruled-plain (c .before .before .before .before .before .before .before .before .before .before .before .before .before .before .before .pre .1 .0)) (c .before .before .before .before .before .before .before .between .ensures .right (c .before .before .before .before .before .before .if2 .taken)) (c .before .before .before .before .row-at5 .ensures) (c .before .before .before .row-at6 .ensures) (c .before .before .up2 .ensures) (c .before .before .before .before .before .before .before .before .loop2 .inv .1))
 
 settle-requires : tie.Need-settle-requires Inv-loop μ-loop Inv-loop2 μ-loop2
-settle-requires c κs = (omega (arith, c .before .before .before .before .before .before .before .before .before .before .pre .1 .1, c .before .before .before .before .before .before .loop .inv .0, c .before .before .before .loop2 .inv .0), (c .before .before .before .loop2 .inv .1 .within, bounds (c .before .before .before .before .before .before .before .before .before .before .pre .0) (c .before .before .before .before .before .before .before .before .before .before .pre .1 .0) (c .before .before .before .loop2 .inv .1) .1 .1))
+settle-requires c κs = (omega (arith, c .before .before .before .before .before .before .before .before .before .before .pre .1 .1, c .before .before .before .before .before .before .loop .inv .0, c .before .before .before .loop2 .inv .0), (c .before .before .before .loop2 .inv .1 .within, bounds (c .before .before .before .before .before .before .before .before .before .before .pre .0 .few) (omega (arith, c .before .before .before .before .before .before .before .before .before .before .pre .1 .0 .few)) (c .before .before .before .loop2 .inv .1) .1 .1))
 
 same-length : tie.Need-same-length Inv-loop μ-loop Inv-loop2 μ-loop2
 same-length c = c .before .before .settle .kept .0 ∙ (c .before .before .before .before .before .before .loop2 .inv .0 ∙ c .before .before .before .before .before .before .before .before .before .loop .inv .0)

@@ -1,77 +1,125 @@
-use Prim.Native.Nat.{_-_, _+_}
 use mathlib.Core.Path.{_≡_, _∙_, refl}
+use Prim.Native.Nat.{_+_, _-_, _*_}
 use native.Mathlib.Omega.{arith}
 use lib.ListN.{length}
-use Rattle.tables.proofs.Differing.{Differing, gap-left, differed-none, differed-step, differed-all}
-use Rattle.tables.proofs.Crossing.{moves}
+use Rattle.tables.proofs.Uniting.{holds-other}
+use Rattle.tables.proofs.Meeting.{Meeting, meeting-none, meeting-turn, meeting-rest, meeting-less, below-less, meeting-halves}
+use Rattle.tables.proofs.Gaps.{gaps, gap-read, gaps-order, gaps-plain, gaps-combined}
 use Rattle.ranges.specs.Inner.{rowAt}
-use Rattle.ranges.proofs.Flat.{ruled-links}
+use Rattle.ranges.proofs.Editing.{ruled-plain}
+use Rattle.ranges.proofs.Walking.{bounds, bounds-step, row-in}
 use borrow.Author.Needs.{needs}
 use Rattle.ranges.proofs.differ.Statement.{statement}
 use Rattle.ranges.proofs.differ.Tie as tie
 use Rattle.ranges.proofs.differ.Reads as reads
 use Rattle.ranges.proofs.differ.Lts as lts
-use Rattle.ranges.proofs.end_at.Reads as end-at-reads
-use Rattle.ranges.proofs.gap_end.Reads as gap-end-reads
-use Rattle.ranges.proofs.gap_start.Reads as gap-start-reads
-use Rattle.ranges.proofs.higher.Reads as higher-reads
-use Rattle.ranges.proofs.keep.Reads as keep-reads
-use Rattle.ranges.proofs.lower.Reads as lower-reads
-use Rattle.ranges.proofs.passed.Reads as passed-reads
-use Rattle.ranges.proofs.start_at.Reads as start-at-reads
+use Rattle.ranges.proofs.apart.Reads as apart-reads
+use Rattle.ranges.proofs.between.Reads as between-reads
+use Rattle.ranges.proofs.down.Reads as down-reads
+use Rattle.ranges.proofs.gap_at.Reads as gap-at-reads
+use Rattle.ranges.proofs.gap_high.Reads as gap-high-reads
+use Rattle.ranges.proofs.gap_low.Reads as gap-low-reads
+use Rattle.ranges.proofs.gaps_from.Reads as gaps-from-reads
+use Rattle.ranges.proofs.gaps_to.Reads as gaps-to-reads
+use Rattle.ranges.proofs.row_at.Reads as row-at-reads
+use Rattle.ranges.proofs.settle.Reads as settle-reads
+use Rattle.ranges.proofs.up.Reads as up-reads
 
 abbrev Inv-loop : tie.InvT-loop
-Inv-loop a n b m out₀ most i₀ j₀ k₀ out i j k = (length out ≡ length out₀) × Differing 4294967295 (rowAt a) n i (rowAt b) m j most (rowAt out) k
+Inv-loop a n b m out₀ most lo hi w₀ z₀ out w z = (length out ≡ length out₀) × Meeting (rowAt a) n (w .i) (z .u) (gaps 4294967295 (rowAt b) m lo) (hi - lo) (w .j) (z .v) most (rowAt out) (w .k) (z .t)
 
 abbrev μ-loop : tie.MeasureT-loop
-μ-loop a n b m out₀ most i₀ j₀ k₀ out i j k = (n + m + 1) - (i + j)
+μ-loop a n b m out₀ most lo hi w₀ z₀ out w z = (z .u + z .v) - (w .i + w .j)
 
-loop-holds : tie.Need-loop-holds Inv-loop μ-loop
-loop-holds c = (refl, record { place = 0; differed = differed-none _ _ _ _ _ _ (λ _. refl) (λ _. refl) (ruled-links (c .before .before .before .pre .0)) (ruled-links (c .before .before .before .pre .1 .0)) _ })
+abbrev Inv-loop2 : tie.InvT-loop2
+Inv-loop2 a n b m out₀ most lo hi w₀ z out w = (length out ≡ length out₀) × Meeting (rowAt a) n (w .i) (z .u) (gaps 4294967295 (rowAt b) m lo) (hi - lo) (w .j) (z .v) most (rowAt out) (w .k) (z .t)
 
-end-at-requires : tie.Need-end-at-requires Inv-loop μ-loop
-end-at-requires c κs = search needs
+abbrev μ-loop2 : tie.MeasureT-loop2
+μ-loop2 a n b m out₀ most lo hi w₀ z out w = (z .u + z .v) - (w .i + w .j)
 
-gap-end-requires : tie.Need-gap-end-requires Inv-loop μ-loop
-gap-end-requires c κs = search needs
+gaps-from-requires : tie.Need-gaps-from-requires Inv-loop μ-loop Inv-loop2 μ-loop2
+gaps-from-requires c κs = omega (arith, c .before .before .before .pre .1 .0 .fits)
 
-start-at-requires : tie.Need-start-at-requires Inv-loop μ-loop
-start-at-requires c κs = search needs
+gaps-to-requires : tie.Need-gaps-to-requires Inv-loop μ-loop Inv-loop2 μ-loop2
+gaps-to-requires c κs = (omega (arith, c .before .before .before .before .pre .1 .0 .fits), c .before .before .before .before .pre .1 .0 .few)
 
-gap-start-requires : tie.Need-gap-start-requires Inv-loop μ-loop
-gap-start-requires c κs = omega (arith, gap-left (c .before .before .before .before .loop .inv .1) (c .before .before .before .loop-test .taken) (omega (arith, c .before .before .end-at .ensures, c .before .before .end-at .ok)), c .before .before .before .before .before .before .before .before .pre .1 .0 .fits)
+sub-t11 : tie.Need-sub-t11 Inv-loop μ-loop Inv-loop2 μ-loop2
+sub-t11 c = gaps-order (c .before .gaps-from .ensures) (c .gaps-to .ensures)
 
-higher-requires : tie.Need-higher-requires Inv-loop μ-loop
-higher-requires c κs = search needs
+loop-holds : tie.Need-loop-holds Inv-loop μ-loop Inv-loop2 μ-loop2
+loop-holds c = (refl, meeting-none _ _ _ _ _ (ruled-plain (c .before .before .before .before .before .pre .0)) (gaps-plain 4294967295 _ _ _ _ (ruled-plain (c .before .before .before .before .before .pre .1 .0)) (omega arith) (c .before .gaps-from .ensures) (c .gaps-to .ensures)) _)
 
-lower-requires : tie.Need-lower-requires Inv-loop μ-loop
-lower-requires c κs = search needs
+apart-requires : tie.Need-apart-requires Inv-loop μ-loop Inv-loop2 μ-loop2
+apart-requires c κs = bounds (c .before .before .before .before .before .before .pre .0 .few) (omega (arith, c .before .before .before .before .before .before .pre .1 .0 .few, c .before .gaps-to .ensures .most)) (c .loop .inv .1)
 
-passed-requires : tie.Need-passed-requires Inv-loop μ-loop
-passed-requires c κs = search needs
+row-at-requires : tie.Need-row-at-requires Inv-loop μ-loop Inv-loop2 μ-loop2
+row-at-requires c κs = row-in (c .before .before .before .before .before .before .before .before .before .pre .0) (c .before .before .before .loop .inv .1 .one .within) (omega (arith, (c .before .before .apart .ensures .right (c .before .if1 .taken)) .0))
 
-passed-requires-2 : tie.Need-passed-requires-2 Inv-loop μ-loop
-passed-requires-2 c κs = omega (arith, gap-left (c .before .before .before .before .before .before .before .before .loop .inv .1) (c .before .before .before .before .before .before .before .loop-test .taken) (omega (arith, c .before .before .before .before .before .before .end-at .ensures, c .before .before .before .before .before .before .end-at .ok)), c .before .before .before .before .before .before .before .before .before .before .before .before .pre .1 .0 .few)
+add-gap-low : tie.Need-add-gap-low Inv-loop μ-loop Inv-loop2 μ-loop2
+add-gap-low c = omega (arith, c .before .before .before .before .before .before .before .gaps-from .ensures .few, (c .before .before .before .before .apart .ensures .right (c .before .before .before .if1 .taken)) .1, c .before .before .before .before .before .loop .inv .1 .two .within, c .before .before .before .before .before .before .gaps-to .ensures .most, c .before .before .before .before .before .before .before .before .before .before .before .pre .1 .0 .few)
 
-keep-requires : tie.Need-keep-requires Inv-loop μ-loop
-keep-requires c κs = (omega (arith, c .before .before .before .before .before .before .before .before .before .before .loop .inv .0, c .before .before .before .before .before .before .before .before .before .before .before .before .before .before .pre .1 .1), omega (arith, gap-left (c .before .before .before .before .before .before .before .before .before .before .loop .inv .1) (c .before .before .before .before .before .before .before .before .before .loop-test .taken) (omega (arith, c .before .before .before .before .before .before .before .before .end-at .ensures, c .before .before .before .before .before .before .before .before .end-at .ok)), c .before .before .before .before .before .before .before .before .before .before .loop .inv .1 .differed .few, c .before .before .before .before .before .before .before .before .before .loop-test .taken, c .before .before .before .before .before .before .before .before .before .before .before .before .before .before .pre .0 .few, c .before .before .before .before .before .before .before .before .before .before .before .before .before .before .pre .1 .0 .few))
+gap-low-requires : tie.Need-gap-low-requires Inv-loop μ-loop Inv-loop2 μ-loop2
+gap-low-requires c κs = (omega (arith, c .before .before .before .before .before .before .before .before .before .before .before .pre .1 .0 .fits), omega (arith, (c .before .before .before .before .apart .ensures .right (c .before .before .before .if1 .taken)) .1, c .before .before .before .before .before .loop .inv .1 .two .within, c .before .before .before .before .before .before .gaps-to .ensures .most))
 
-loop-less : tie.Need-loop-less Inv-loop μ-loop
-loop-less c = omega (arith, gap-left (c .before .before .before .before .before .before .before .before .before .before .before .before .before .loop .inv .1) (c .before .before .before .before .before .before .before .before .before .before .before .before .loop-test .taken) (omega (arith, c .before .before .before .before .before .before .before .before .before .before .before .end-at .ensures, c .before .before .before .before .before .before .before .before .before .before .before .end-at .ok)), c .before .before .before .before .before .before .before .before .before .before .before .before .loop-test .taken, moves _ _ _ _ _ _ _ (c .before .before .before .before .before .before .lower .ensures) (c .before .before .before .before .before .passed .ensures) (c .before .before .before .before .passed2 .ensures))
+up-requires : tie.Need-up-requires Inv-loop μ-loop Inv-loop2 μ-loop2
+up-requires c κs = (omega (arith, c .before .before .before .before .before .before .before .before .before .before .before .before .pre .1 .1, c .before .before .before .before .before .before .loop .inv .0, c .before .before .before .before .before .before .loop .inv .1 .within), bounds-step (c .before .before .before .before .before .before .before .before .before .before .before .before .pre .0 .few) (omega (arith, c .before .before .before .before .before .before .before .before .before .before .before .before .pre .1 .0 .few, c .before .before .before .before .before .before .before .gaps-to .ensures .most)) (omega (arith, (c .before .before .before .before .before .apart .ensures .right (c .before .before .before .before .if1 .taken)) .0)) (omega (arith, (c .before .before .before .before .before .apart .ensures .right (c .before .before .before .before .if1 .taken)) .1)) (c .before .before .before .before .before .before .loop .inv .1))
 
-loop-again : tie.Need-loop-again Inv-loop μ-loop
-loop-again c = (
-  c .before .before .keep .kept .0 ∙ c .before .before .before .before .before .before .before .before .before .before .before .before .before .loop .inv .0,
-  differed-step _ _ _ _ _ _ (λ _. refl) (λ _. refl) (ruled-links (c .before .before .before .before .before .before .before .before .before .before .before .before .before .before .before .before .before .pre .0)) (ruled-links (c .before .before .before .before .before .before .before .before .before .before .before .before .before .before .before .before .before .pre .1 .0)) _ _ _ _ _ _ _ _ _ _ _ _ _ _
-      (c .before .before .before .before .before .before .before .before .before .before .before .before .loop-test .taken) (gap-left (c .before .before .before .before .before .before .before .before .before .before .before .before .before .loop .inv .1) (c .before .before .before .before .before .before .before .before .before .before .before .before .loop-test .taken) (omega (arith, c .before .before .before .before .before .before .before .before .before .before .before .end-at .ensures, c .before .before .before .before .before .before .before .before .before .before .before .end-at .ok))) (c .before .before .before .before .before .before .before .before .before .before .before .end-at .ensures) (c .before .before .before .before .before .before .before .before .before .start-at .ensures) (c .before .before .before .before .before .before .before .before .gap-start .ensures) (c .before .before .before .before .before .before .before .before .before .before .gap-end .ensures) (omega (arith, c .before .before .before .before .before .before .before .before .before .before .gap-end .ok)) (c .before .before .before .before .before .before .before .higher .ensures) (c .before .before .before .before .before .before .lower .ensures)
-      (c .before .before .before .before .before .passed .ensures) (c .before .before .before .before .passed2 .ensures) (c .before .before .keep .ensures .0) (c .before .before .before .before .before .before .before .before .before .before .before .before .before .loop .inv .1),
-)
+sub-row-at : tie.Need-sub-row-at Inv-loop μ-loop Inv-loop2 μ-loop2
+sub-row-at c = omega (arith, (c .before .before .before .before .before .before .before .before .before .before .apart .ensures .right (c .before .before .before .before .before .before .before .before .before .if1 .taken)) .0)
 
-same-length : tie.Need-same-length Inv-loop μ-loop
-same-length c = search needs
+row-at-requires-2 : tie.Need-row-at-requires-2 Inv-loop μ-loop Inv-loop2 μ-loop2
+row-at-requires-2 c κs = row-in (c .before .before .before .before .before .before .before .before .before .before .before .before .before .before .before .before .before .pre .0) (c .before .before .before .before .before .before .before .before .before .before .before .loop .inv .1 .one .within) (omega (arith, (c .before .before .before .before .before .before .before .before .before .before .apart .ensures .right (c .before .before .before .before .before .before .before .before .before .if1 .taken)) .0))
 
-returns : tie.Need-returns Inv-loop μ-loop
-returns c = differed-all _ _ _ _ _ _ (λ _. refl) (λ _. refl) (ruled-links (c .before .before .before .before .before .pre .0)) (ruled-links (c .before .before .before .before .before .pre .1 .0)) _ _ _ _ (c .loop-test .left) (c .before .loop .inv .1)
+sub-gap-high : tie.Need-sub-gap-high Inv-loop μ-loop Inv-loop2 μ-loop2
+sub-gap-high c = omega (arith, (c .before .before .before .before .before .before .before .before .before .before .before .before .apart .ensures .right (c .before .before .before .before .before .before .before .before .before .before .before .if1 .taken)) .1)
+
+add-gap-high : tie.Need-add-gap-high Inv-loop μ-loop Inv-loop2 μ-loop2
+add-gap-high c = omega (arith, (c .before .before .before .before .before .before .before .before .before .before .before .before .apart .ensures .right (c .before .before .before .before .before .before .before .before .before .before .before .if1 .taken)) .1, c .before .before .before .before .before .before .before .before .before .before .before .before .before .loop .inv .1 .two .within, c .before .before .before .before .before .before .before .before .before .before .before .before .before .before .gaps-to .ensures .most, c .before .before .before .before .before .before .before .before .before .before .before .before .before .before .before .before .before .before .before .pre .1 .0 .few)
+
+gap-high-requires : tie.Need-gap-high-requires Inv-loop μ-loop Inv-loop2 μ-loop2
+gap-high-requires c κs = (omega (arith, c .before .before .before .before .before .before .before .before .before .before .before .before .before .before .before .before .before .before .before .pre .1 .0 .fits), (omega (arith, (c .before .before .before .before .before .before .before .before .before .before .before .before .apart .ensures .right (c .before .before .before .before .before .before .before .before .before .before .before .if1 .taken)) .1), omega (arith, (c .before .before .before .before .before .before .before .before .before .before .before .before .apart .ensures .right (c .before .before .before .before .before .before .before .before .before .before .before .if1 .taken)) .1, c .before .before .before .before .before .before .before .before .before .before .before .before .before .loop .inv .1 .two .within, c .before .before .before .before .before .before .before .before .before .before .before .before .before .before .gaps-to .ensures .most)))
+
+down-requires : tie.Need-down-requires Inv-loop μ-loop Inv-loop2 μ-loop2
+down-requires c κs = (omega (arith, c .before .before .before .before .before .before .before .before .before .before .before .before .before .before .before .before .before .before .before .before .pre .1 .1, c .before .before .before .before .before .before .before .before .before .before .before .before .before .before .loop .inv .0, c .before .before .before .before .before .before .before .before .before .before .before .before .before .before .loop .inv .1 .within, c .before .before .before .before .before .before .before .up .kept .0), (omega (arith, (c .before .before .before .before .before .before .before .before .before .before .before .before .before .apart .ensures .right (c .before .before .before .before .before .before .before .before .before .before .before .before .if1 .taken)) .0), (omega (arith, (c .before .before .before .before .before .before .before .before .before .before .before .before .before .apart .ensures .right (c .before .before .before .before .before .before .before .before .before .before .before .before .if1 .taken)) .1), omega (arith, (c .before .before .before .before .before .before .before .before .before .before .before .before .before .apart .ensures .right (c .before .before .before .before .before .before .before .before .before .before .before .before .if1 .taken)) .2))))
+
+loop-less : tie.Need-loop-less Inv-loop μ-loop Inv-loop2 μ-loop2
+loop-less c = meeting-less (c .before .before .before .before .before .before .before .before .before .before .before .before .before .before .before .before .apart .ensures .right (c .before .before .before .before .before .before .before .before .before .before .before .before .before .before .before .if1 .taken)) (c .before .before .before .before .before .before .before .before .before .before .up .ensures) (c .before .before .down .ensures)
+
+loop-again : tie.Need-loop-again Inv-loop μ-loop Inv-loop2 μ-loop2
+loop-again c = (c .before .before .down .kept .0 ∙ (c .before .before .before .before .before .before .before .before .before .before .up .kept .0 ∙ c .before .before .before .before .before .before .before .before .before .before .before .before .before .before .before .before .before .loop .inv .0), meeting-turn _ _ _ _ _ (ruled-plain (c .before .before .before .before .before .before .before .before .before .before .before .before .before .before .before .before .before .before .before .before .before .before .before .pre .0)) (gaps-plain 4294967295 _ _ _ _ (ruled-plain (c .before .before .before .before .before .before .before .before .before .before .before .before .before .before .before .before .before .before .before .before .before .before .before .pre .1 .0)) (omega arith) (c .before .before .before .before .before .before .before .before .before .before .before .before .before .before .before .before .before .before .before .gaps-from .ensures) (c .before .before .before .before .before .before .before .before .before .before .before .before .before .before .before .before .before .before .gaps-to .ensures)) (c .before .before .before .before .before .before .before .before .before .before .before .before .before .before .before .before .apart .ensures .right (c .before .before .before .before .before .before .before .before .before .before .before .before .before .before .before .if1 .taken)) (c .before .before .before .before .before .before .before .before .before .before .before .before .before .row-at .ensures) (gap-read _ _ _ (c .before .before .before .before .before .before .before .before .before .before .before .gap-low .ensures)) (c .before .before .before .before .before .before .before .before .before .before .up .ensures) (c .before .before .before .before .before .row-at2 .ensures) (gap-read _ _ _ (c .before .before .before .gap-high .ensures)) (c .before .before .down .ensures) (c .before .before .before .before .before .before .before .before .before .before .before .before .before .before .before .before .before .loop .inv .1))
+
+loop2-holds : tie.Need-loop2-holds Inv-loop μ-loop Inv-loop2 μ-loop2
+loop2-holds c = (refl, c .before .before .loop .inv .1)
+
+between-requires : tie.Need-between-requires Inv-loop μ-loop Inv-loop2 μ-loop2
+between-requires c κs = search needs
+
+row-at-requires-3 : tie.Need-row-at-requires-3 Inv-loop μ-loop Inv-loop2 μ-loop2
+row-at-requires-3 c κs = row-in (c .before .before .before .before .before .before .before .before .before .before .before .before .pre .0) (c .before .before .before .loop2 .inv .1 .one .within) ((c .before .before .between .ensures .right (c .before .if2 .taken)) .0)
+
+add-gap-at : tie.Need-add-gap-at Inv-loop μ-loop Inv-loop2 μ-loop2
+add-gap-at c = omega (arith, (c .before .before .before .before .between .ensures .right (c .before .before .before .if2 .taken)) .1, c .before .before .before .before .before .loop2 .inv .1 .two .within, c .before .before .before .before .before .before .before .before .before .gaps-to .ensures .most, c .before .before .before .before .before .before .before .before .before .before .before .before .before .before .pre .1 .0 .few)
+
+gap-at-requires : tie.Need-gap-at-requires Inv-loop μ-loop Inv-loop2 μ-loop2
+gap-at-requires c κs = (omega (arith, c .before .before .before .before .before .before .before .before .before .before .before .before .before .before .pre .1 .0 .fits), omega (arith, (c .before .before .before .before .between .ensures .right (c .before .before .before .if2 .taken)) .1, c .before .before .before .before .before .loop2 .inv .1 .two .within, c .before .before .before .before .before .before .before .before .before .gaps-to .ensures .most))
+
+up-requires-2 : tie.Need-up-requires-2 Inv-loop μ-loop Inv-loop2 μ-loop2
+up-requires-2 c κs = (omega (arith, c .before .before .before .before .before .before .before .before .before .before .before .before .before .before .before .pre .1 .1, c .before .before .before .before .before .before .before .before .before .loop .inv .0, c .before .before .before .before .before .before .loop2 .inv .0, c .before .before .before .before .before .before .loop2 .inv .1 .within), bounds-step (c .before .before .before .before .before .before .before .before .before .before .before .before .before .before .before .pre .0 .few) (omega (arith, c .before .before .before .before .before .before .before .before .before .before .before .before .before .before .before .pre .1 .0 .few, c .before .before .before .before .before .before .before .before .before .before .gaps-to .ensures .most)) ((c .before .before .before .before .before .between .ensures .right (c .before .before .before .before .if2 .taken)) .0) ((c .before .before .before .before .before .between .ensures .right (c .before .before .before .before .if2 .taken)) .1) (c .before .before .before .before .before .before .loop2 .inv .1))
+
+loop2-less : tie.Need-loop2-less Inv-loop μ-loop Inv-loop2 μ-loop2
+loop2-less c = below-less (c .before .before .before .before .before .before .before .before .between .ensures .right (c .before .before .before .before .before .before .before .if2 .taken)) (c .before .before .up2 .ensures)
+
+loop2-again : tie.Need-loop2-again Inv-loop μ-loop Inv-loop2 μ-loop2
+loop2-again c = (c .before .before .up2 .kept .0 ∙ c .before .before .before .before .before .before .before .before .before .loop2 .inv .0, meeting-rest _ _ _ _ _ (ruled-plain (c .before .before .before .before .before .before .before .before .before .before .before .before .before .before .before .before .before .before .pre .0)) (gaps-plain 4294967295 _ _ _ _ (ruled-plain (c .before .before .before .before .before .before .before .before .before .before .before .before .before .before .before .before .before .before .pre .1 .0)) (omega arith) (c .before .before .before .before .before .before .before .before .before .before .before .before .before .before .gaps-from .ensures) (c .before .before .before .before .before .before .before .before .before .before .before .before .before .gaps-to .ensures)) (c .before .before .before .before .before .before .before .before .between .ensures .right (c .before .before .before .before .before .before .before .if2 .taken)) (c .before .before .before .before .before .row-at3 .ensures) (gap-read _ _ _ (c .before .before .before .gap-at .ensures)) (c .before .before .up2 .ensures) (c .before .before .before .before .before .before .before .before .before .loop2 .inv .1))
+
+settle-requires : tie.Need-settle-requires Inv-loop μ-loop Inv-loop2 μ-loop2
+settle-requires c κs = (omega (arith, c .before .before .before .before .before .before .before .before .before .before .before .before .pre .1 .1, c .before .before .before .before .before .before .loop .inv .0, c .before .before .before .loop2 .inv .0), (c .before .before .before .loop2 .inv .1 .within, bounds (c .before .before .before .before .before .before .before .before .before .before .before .before .pre .0 .few) (omega (arith, c .before .before .before .before .before .before .before .before .before .before .before .before .pre .1 .0 .few, c .before .before .before .before .before .before .before .gaps-to .ensures .most)) (c .before .before .before .loop2 .inv .1) .1 .1))
+
+same-length : tie.Need-same-length Inv-loop μ-loop Inv-loop2 μ-loop2
+same-length c = c .before .before .settle .kept .0 ∙ (c .before .before .before .before .before .before .loop2 .inv .0 ∙ c .before .before .before .before .before .before .before .before .before .loop .inv .0)
+
+returns : tie.Need-returns Inv-loop μ-loop Inv-loop2 μ-loop2
+returns c = holds-other (gaps-combined 4294967295 _ _ _ _ (ruled-plain (c .before .before .before .before .before .before .before .before .before .before .before .before .before .before .before .pre .1 .0)) (omega arith) (c .before .before .before .before .before .before .before .before .before .before .before .gaps-from .ensures) (c .before .before .before .before .before .before .before .before .before .before .gaps-to .ensures) _ _ (ruled-plain (c .before .before .before .before .before .before .before .before .before .before .before .before .before .before .before .pre .0)) (λ i. omega (arith, c .before .before .before .before .before .before .before .before .before .before .before .before .before .before .shared-slice-known .given (2 * i + 1)))) (c .before .before .settle .ensures _ (meeting-halves _ _ _ _ _ (ruled-plain (c .before .before .before .before .before .before .before .before .before .before .before .before .before .before .before .pre .0)) (gaps-plain 4294967295 _ _ _ _ (ruled-plain (c .before .before .before .before .before .before .before .before .before .before .before .before .before .before .before .pre .1 .0)) (omega arith) (c .before .before .before .before .before .before .before .before .before .before .before .gaps-from .ensures) (c .before .before .before .before .before .before .before .before .before .before .gaps-to .ensures)) (c .before .before .before .before .before .between .ensures .wrong (c .before .before .before .before .if2 .left)) (c .before .before .before .before .before .before .loop2 .inv .1)))
 
 pub differ-spec : {M : Type 1} → statement M
 differ-spec =
@@ -79,17 +127,33 @@ differ-spec =
     (tie.spec
     Inv-loop
     μ-loop
+    Inv-loop2
+    μ-loop2
+    gaps-from-requires
+    gaps-to-requires
+    sub-t11
     loop-holds
-    end-at-requires
-    gap-end-requires
-    start-at-requires
-    gap-start-requires
-    higher-requires
-    lower-requires
-    passed-requires
-    passed-requires-2
-    keep-requires
+    apart-requires
+    row-at-requires
+    add-gap-low
+    gap-low-requires
+    up-requires
+    sub-row-at
+    row-at-requires-2
+    sub-gap-high
+    add-gap-high
+    gap-high-requires
+    down-requires
     loop-less
     loop-again
+    loop2-holds
+    between-requires
+    row-at-requires-3
+    add-gap-at
+    gap-at-requires
+    up-requires-2
+    loop2-less
+    loop2-again
+    settle-requires
     same-length
     returns)

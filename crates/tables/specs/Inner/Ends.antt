@@ -43,3 +43,16 @@ pub record Halves (most : ℕ) (row : ℕ → Row) (k t : ℕ) (rs : Rows) : Typ
   pub low : Rows
   pub holds : Holds t row k low
   pub whole : low ++ span row t (most - t) ≡ rs
+
+-- of the gaps of m rows the first is left out where it is empty: lo is the first that is not
+pub record GapsFrom (row : ℕ → Row) (m lo : ℕ) : Type 0 where
+  pub few : lo ≤ 1
+  pub kept : lo ≡ 0 → 0 < m → 0 < row 0 .start
+  pub none : 0 < lo → (0 < m) × (row 0 .start ≡ 0)
+
+-- and the last too: hi is the one behind the last that is not
+pub record GapsTo (cap : ℕ) (row : ℕ → Row) (m hi : ℕ) : Type 0 where
+  pub least : m ≤ hi
+  pub most : hi ≤ m + 1
+  pub kept : m < hi → 0 < m → row (m - 1) .end < cap
+  pub none : hi ≤ m → (0 < m) × (row (m - 1) .end ≡ cap)
