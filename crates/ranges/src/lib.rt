@@ -5,7 +5,7 @@ ghost use mathlib.Core.List.{_++_};
 ghost use lib.ListN.{length};
 ghost use Rattle.tables.specs.Answers.{Says};
 ghost use Rattle.tables.specs.Limits.{rowLimit};
-ghost use Rattle.tables.specs.Inner.Rows.{Rows, at, span, combined, union, difference, intersection};
+ghost use Rattle.tables.specs.Inner.Rows.{Rows, span, combined, union, difference, intersection};
 ghost use Rattle.tables.specs.Inner.Sweep.{Holds};
 ghost use Rattle.tables.specs.Inner.Unite.{Passed, Ended, Counted, Starts, Ends, Last, Adds, United};
 ghost use Rattle.tables.specs.Inner.Cross.{Keeps};
@@ -184,39 +184,6 @@ pub fn clock_end(t: &[u32], n: usize) -> Edge
     Edge::At(tables::Clock(end_at(t, n - 1)))
 }
 
-// Whether one of the rows lo, .., hi - 1 holds `x`: each look halves the rows still possible.
-fn search(t: &[u32], n: usize, lo: usize, hi: usize, x: u32) -> bool
-    requires { ⌜ Ruled (now t) n ⌝ }
-    requires { ⌜ hi ≤ n ⌝ }
-    ensures { λ r. ⌜ Says (0 < at (span (rowAt (now (t .entry))) lo (hi - lo)) x) r ⌝ }
-{
-    if hi <= lo {
-        return false;
-    }
-    let mid = (lo + (hi - 1)) / 2;
-    if end_at(t, mid) <= x {
-        return search(t, n, mid + 1, hi, x);
-    }
-    if x < start_at(t, mid) {
-        return search(t, n, lo, mid, x);
-    }
-    true
-}
-
-// Whether the table holds the clock.
-pub fn contains_clock(t: &[u32], n: usize, clock: tables::Clock) -> tables::Told
-    ensures { λ r. ⌜ ContainsClock (now (t .entry)) n (clock .0) r ⌝ }
-{
-    if !well_formed(t, n) {
-        return tables::Told::Refused(varint::Refusal::Malformed);
-    }
-    let x = clock.0;
-    if search(t, n, 0, n, x) {
-        return tables::Told::Yes;
-    }
-    tables::Told::No
-}
-
 // `half` where `m` is below `x`, else 0: reckoned, for a branch here would be mispredicted every other time.
 fn advance(m: u32, x: u64, half: usize) -> usize
     requires { ⌜ x ≤ 4294967296 ⌝ }
@@ -255,6 +222,24 @@ pub fn find_start(t: &[u32], n: usize, clock: tables::Clock) -> Place
         return Place::Nothing;
     }
     Place::At(i)
+}
+
+// Whether the table holds the clock: the first row that ends past it does, or none.
+pub fn contains_clock(t: &[u32], n: usize, clock: tables::Clock) -> tables::Told
+    ensures { λ r. ⌜ ContainsClock (now (t .entry)) n (clock .0) r ⌝ }
+{
+    if !well_formed(t, n) {
+        return tables::Told::Refused(varint::Refusal::Malformed);
+    }
+    let x = clock.0;
+    let row = ends_below(t, n, x as u64 + 1);
+    if n <= row {
+        return tables::Told::No;
+    }
+    if x < start_at(t, row) {
+        return tables::Told::No;
+    }
+    tables::Told::Yes
 }
 
 // ## Insert and remove: the rows that the range meets are found by halving, the others are copied.
