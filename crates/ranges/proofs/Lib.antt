@@ -9,6 +9,7 @@ pub mod Growing
 pub mod Looking
 pub mod Asking
 pub mod Determined
+pub mod Below
 pub mod Most
 pub mod Starred
 pub mod Refuted
