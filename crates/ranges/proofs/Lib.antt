@@ -3,6 +3,7 @@ pub mod Plain
 pub mod Flat
 pub mod Writing
 pub mod Stores
+pub mod Keeping
 pub mod Moving
 pub mod Editing
 pub mod Growing

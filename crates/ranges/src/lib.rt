@@ -12,7 +12,7 @@ ghost use Rattle.tables.specs.Inner.Cross.{Keeps};
 ghost use Rattle.tables.specs.Inner.Differ.{GapStart, GapEnd};
 ghost use Rattle.tables.specs.Inner.Edit.{range, Advanced, Parted, starts, ends, Starting, Ending, Moved, Stands};
 ghost use Rattle.ranges.specs.Tables.{most, Merged, Excluded, Intersected, Inserted, Removed, FromRanges, ContainsClock, FindStart, ClockStart, ClockEnd, Len, IsEmpty, Get};
-ghost use Rattle.ranges.specs.Inner.{rowAt, rowsOf, Ruled, Wrote};
+ghost use Rattle.ranges.specs.Inner.{rowAt, rowsOf, Ruled, Wrote, Onward, EndsAt};
 
 // An index, or none, or why there is no answer.
 pub enum Place {
@@ -439,6 +439,24 @@ fn passed(i: usize, p: u32, x: u32) -> usize
     if p <= x { i + 1 } else { i }
 }
 
+// `next` of the next row, where `p` of this one is not past `x`. It is read before that is known: so the loads wait for no comparison.
+fn onward(p: u32, x: u32, next: u32) -> u32
+    ensures { λ r. ⌜ Onward p x next r ⌝ }
+{
+    if p <= x { next } else { p }
+}
+
+// The end of row `i`, or 0 where there is no such row.
+fn ending(t: &[u32], n: usize, i: usize) -> u32
+    requires { ⌜ 2 * n ≤ length (now t) ⌝ }
+    ensures { λ r. ⌜ EndsAt (rowAt (now (t .entry))) n i r ⌝ }
+{
+    if i < n {
+        return end_at(t, i);
+    }
+    0
+}
+
 // The end of a row that starts at `x` or before, else 0.
 fn ended(p: u32, x: u32, e: u32) -> u32
     ensures { λ r. ⌜ Ended p x e r ⌝ }
@@ -594,14 +612,18 @@ fn differ(a: &[u32], n: usize, b: &[u32], m: usize, out: &mut [u32], most: usize
     let mut i: usize = 0;
     let mut j: usize = 0;
     let mut k: usize = 0;
+    let mut p = ending(a, n, 0);
+    let mut q = gap_end(b, m, 0);
     while i < n {
-        let p = end_at(a, i);
-        let q = gap_end(b, m, j);
+        let u = ending(a, n, i + 1);
+        let v = gap_end(b, m, j + 1);
         let x = higher(start_at(a, i), gap_start(b, j));
         let y = lower(p, q);
+        k = keep(out, most, k, x, y);
         i = passed(i, p, y);
         j = passed(j, q, y);
-        k = keep(out, most, k, x, y);
+        p = onward(p, y, u);
+        q = onward(q, y, v);
     }
     k
 }
@@ -629,17 +651,21 @@ fn cross(a: &[u32], n: usize, b: &[u32], m: usize, out: &mut [u32], most: usize)
     let mut i: usize = 0;
     let mut j: usize = 0;
     let mut k: usize = 0;
+    let mut p = ending(a, n, 0);
+    let mut q = ending(b, m, 0);
     while i < n {
         if m <= j {
             return k;
         }
-        let p = end_at(a, i);
-        let q = end_at(b, j);
+        let u = ending(a, n, i + 1);
+        let v = ending(b, m, j + 1);
         let x = higher(start_at(a, i), start_at(b, j));
         let y = lower(p, q);
+        k = keep(out, most, k, x, y);
         i = passed(i, p, y);
         j = passed(j, q, y);
-        k = keep(out, most, k, x, y);
+        p = onward(p, y, u);
+        q = onward(q, y, v);
     }
     k
 }
