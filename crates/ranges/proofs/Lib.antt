@@ -4,6 +4,7 @@ pub mod Flat
 pub mod Writing
 pub mod Stores
 pub mod Keeping
+pub mod Uniting
 pub mod Moving
 pub mod Editing
 pub mod Growing

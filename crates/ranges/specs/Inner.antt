@@ -35,10 +35,10 @@ pub record Wrote (rs : inner.Rows) (len : ℕ) (out : List ℕ) (r : Made) : Typ
   pub full : most len < length rs → (r ≡ made.Refused Full) × (out ≡ filled len [])
   pub done : length rs ≤ most len → (r ≡ made.Rows (length rs)) × (out ≡ filled len (map bare rs))
 
--- next where p is not past x, else p
-pub record Onward (p x next r : ℕ) : Type 0 where
-  pub on : p ≤ x → r ≡ next
-  pub off : x < p → r ≡ p
+-- a where p is not past x, else b
+pub record Picked (p x a b r : ℕ) : Type 0 where
+  pub on : p ≤ x → r ≡ a
+  pub off : x < p → r ≡ b
 
 -- r is the end of row i, if there is such a row
 pub record EndsAt (row : ℕ → inner.Row) (n i r : ℕ) : Type 0 where

@@ -7,12 +7,12 @@ ghost use Rattle.tables.specs.Answers.{Says};
 ghost use Rattle.tables.specs.Limits.{rowLimit};
 ghost use Rattle.tables.specs.Inner.Rows.{Rows, span, combined, union, difference, intersection};
 ghost use Rattle.tables.specs.Inner.Sweep.{Holds};
-ghost use Rattle.tables.specs.Inner.Unite.{Passed, Ended, Counted, Starts, Ends, Last, Adds, United};
+ghost use Rattle.tables.specs.Inner.Unite.{Passed, Counted, Starts, Ends, Last, Adds, United};
 ghost use Rattle.tables.specs.Inner.Cross.{Keeps};
 ghost use Rattle.tables.specs.Inner.Differ.{GapStart, GapEnd};
 ghost use Rattle.tables.specs.Inner.Edit.{range, Advanced, Parted, starts, ends, Starting, Ending, Moved, Stands};
 ghost use Rattle.ranges.specs.Tables.{most, Merged, Excluded, Intersected, Inserted, Removed, FromRanges, ContainsClock, FindStart, ClockStart, ClockEnd, Len, IsEmpty, Get};
-ghost use Rattle.ranges.specs.Inner.{rowAt, rowsOf, Ruled, Wrote, Onward, EndsAt};
+ghost use Rattle.ranges.specs.Inner.{rowAt, rowsOf, Ruled, Wrote, Picked, EndsAt};
 
 // An index, or none, or why there is no answer.
 pub enum Place {
@@ -441,7 +441,7 @@ fn passed(i: usize, p: u32, x: u32) -> usize
 
 // `next` of the next row, where `p` of this one is not past `x`. It is read before that is known: so the loads wait for no comparison.
 fn onward(p: u32, x: u32, next: u32) -> u32
-    ensures { λ r. ⌜ Onward p x next r ⌝ }
+    ensures { λ r. ⌜ Picked p x next p r ⌝ }
 {
     if p <= x { next } else { p }
 }
@@ -457,11 +457,19 @@ fn ending(t: &[u32], n: usize, i: usize) -> u32
     0
 }
 
-// The end of a row that starts at `x` or before, else 0.
-fn ended(p: u32, x: u32, e: u32) -> u32
-    ensures { λ r. ⌜ Ended p x e r ⌝ }
+// What belongs to the row that starts first, at `p` or at `q`: of two that start together, the left one.
+fn first(p: u32, q: u32, s: u32, t: u32) -> u32
+    ensures { λ r. ⌜ Picked p q s t r ⌝ }
 {
-    if p <= x { e } else { 0 }
+    if p <= q { s } else { t }
+}
+
+// The next row, where the left one at `p` is not the first.
+fn waited(j: usize, p: u32, q: u32) -> usize
+    requires { ⌜ j ≤ rowLimit ⌝ }
+    ensures { λ r. ⌜ Picked p q j (j + 1) r ⌝ }
+{
+    if p <= q { j } else { j + 1 }
 }
 
 // One row more, where it starts past the last.
@@ -559,9 +567,9 @@ fn unite_on(
         let s = end_at(a, i);
         let t = end_at(b, j);
         let x = lower(p, q);
-        i = passed(i, p, x);
-        j = passed(j, q, x);
-        let y = higher(ended(p, x, s), ended(q, x, t));
+        let y = first(p, q, s, t);
+        i = passed(i, p, q);
+        j = waited(j, p, q);
         k = join(out, most, k, e, x, y);
         e = further(e, y);
     }
@@ -590,13 +598,14 @@ fn unite(a: &[u32], n: usize, b: &[u32], m: usize, out: &mut [u32], most: usize)
         let s = end_at(a, i);
         let t = end_at(b, j);
         let x = lower(p, q);
-        i = passed(i, p, x);
-        j = passed(j, q, x);
-        let y = higher(ended(p, x, s), ended(q, x, t));
+        let y = first(p, q, s, t);
+        i = passed(i, p, q);
+        j = waited(j, p, q);
         k = join(out, most, k, e, x, y);
         e = further(e, y);
-        p = onward(p, x, u);
-        q = onward(q, x, v);
+        let w = first(p, q, q, v);
+        p = onward(p, q, u);
+        q = w;
     }
     unite_on(a, n, i, b, m, j, out, most, k, e)
 }

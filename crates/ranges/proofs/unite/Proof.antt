@@ -5,18 +5,19 @@ use lib.ListN.{length}
 use borrow.Author.Needs.{needs}
 use Rattle.tables.specs.Inner.Unite.{United}
 use Rattle.tables.specs.Inner.Edit.{Starting}
-use Rattle.tables.proofs.Uniting.{united-none, united-pair, pair-at, pair-fills, pair-moves, less-left}
+use Rattle.tables.proofs.Uniting.{united-none, less-left}
+use Rattle.ranges.proofs.Uniting.{first-at, first-fills, first-moves, united-first}
 use Rattle.ranges.specs.Inner.{rowAt}
 use Rattle.ranges.proofs.Flat.{ruled-links}
-use Rattle.ranges.proofs.Keeping.{onward-passed}
+use Rattle.ranges.proofs.Keeping.{onward-passed, picked-both}
 use Rattle.ranges.proofs.unite.Statement.{statement}
 use Rattle.ranges.proofs.unite.Tie as tie
 use Rattle.ranges.proofs.unite.Reads as reads
 use Rattle.ranges.proofs.unite.Lts as lts
 use Rattle.ranges.proofs.end_at.Reads as end-at-reads
-use Rattle.ranges.proofs.ended.Reads as ended-reads
+use Rattle.ranges.proofs.first.Reads as first-reads
 use Rattle.ranges.proofs.further.Reads as further-reads
-use Rattle.ranges.proofs.higher.Reads as higher-reads
+use Rattle.ranges.proofs.waited.Reads as waited-reads
 use Rattle.ranges.proofs.join.Reads as join-reads
 use Rattle.ranges.proofs.lower.Reads as lower-reads
 use Rattle.ranges.proofs.onward.Reads as onward-reads
@@ -78,25 +79,19 @@ lower-requires c κs = search needs
 passed-requires : tie.Need-passed-requires Inv-loop μ-loop
 passed-requires c κs = search needs
 
-passed-requires-2 : tie.Need-passed-requires-2 Inv-loop μ-loop
-passed-requires-2 c κs = search needs
+first-requires : tie.Need-first-requires Inv-loop μ-loop
+first-requires c κs = search needs
 
-ended-requires : tie.Need-ended-requires Inv-loop μ-loop
-ended-requires c κs = search needs
-
-ended-requires-2 : tie.Need-ended-requires-2 Inv-loop μ-loop
-ended-requires-2 c κs = search needs
-
-higher-requires : tie.Need-higher-requires Inv-loop μ-loop
-higher-requires c κs = search needs
+waited-requires : tie.Need-waited-requires Inv-loop μ-loop
+waited-requires c κs = omega (arith, c .before .before .before .before .before .before .before .if1 .left, c .before .before .before .before .before .before .before .before .before .before .before .before .before .before .before .pre .1 .0 .few)
 
 join-requires : tie.Need-join-requires Inv-loop μ-loop
 join-requires c κs =
     let h = c .before in
-    let l = h .before .before .before .before .before .before .before .before .before .before .before .before in
+    let l = h .before .before .before .before .before .before .before .before .before .before in
     let s = l .before .before .before .before .before .before in
-    let i : l .loop .i < s .args .n = omega (arith, h .before .before .before .before .before .before .before .before .before .before .before .loop-test .taken) in
-    let j : l .loop .j < s .args .m = omega (arith, h .before .before .before .before .before .before .before .before .before .before .if1 .left) in (
+    let i : l .loop .i < s .args .n = omega (arith, h .before .before .before .before .before .before .before .before .before .loop-test .taken) in
+    let j : l .loop .j < s .args .m = omega (arith, h .before .before .before .before .before .before .before .before .if1 .left) in (
       omega (arith, l .loop .inv .0, s .pre .1 .1),
       (
         l .loop .inv .1 .last,
@@ -104,7 +99,7 @@ join-requires c κs =
           omega (arith, l .loop .inv .1 .few, s .pre .0 .few, s .pre .1 .0 .few, i, j),
           (
             l .loop .inv .1 .most,
-            pair-fills _ _ _ _ _ _ _ _ _ _ _ _ (s .pre .0 .ruled _ i .filled) (s .pre .1 .0 .ruled _ j .filled) (pair-at (l .loop .inv .2 .here i) (l .loop .inv .3 .here j) (h .before .before .before .before .before .before .before .end-at .ensures) (h .before .before .before .before .before .before .end-at2 .ensures) (h .before .before .before .before .before .lower .ensures) (h .before .before .before .before .passed .ensures) (h .before .before .before .passed2 .ensures) (h .before .before .ended .ensures) (h .before .ended2 .ensures) (h .higher .ensures)),
+            first-fills (s .pre .0 .ruled _ i .filled) (s .pre .1 .0 .ruled _ j .filled) (first-at (l .loop .inv .2 .here i) (l .loop .inv .3 .here j) (h .before .before .before .before .before .end-at .ensures) (h .before .before .before .before .end-at2 .ensures) (h .before .before .before .lower .ensures) (h .before .before .first .ensures) (h .before .passed .ensures) (h .waited .ensures)),
           ),
         ),
       ),
@@ -113,32 +108,32 @@ join-requires c κs =
 further-requires : tie.Need-further-requires Inv-loop μ-loop
 further-requires c κs = search needs
 
+first-requires-2 : tie.Need-first-requires-2 Inv-loop μ-loop
+first-requires-2 c κs = search needs
+
 onward-requires : tie.Need-onward-requires Inv-loop μ-loop
 onward-requires c κs = search needs
-
-onward-requires-2 : tie.Need-onward-requires-2 Inv-loop μ-loop
-onward-requires-2 c κs = search needs
 
 loop-less : tie.Need-loop-less Inv-loop μ-loop
 loop-less c =
     let h = c .before .before .before .before .before .before .before in
-    let l = h .before .before .before .before .before .before .before .before .before .before .before .before in
+    let l = h .before .before .before .before .before .before .before .before .before .before in
     let s = l .before .before .before .before .before .before in
-    let i : l .loop .i < s .args .n = omega (arith, h .before .before .before .before .before .before .before .before .before .before .before .loop-test .taken) in
-    let j : l .loop .j < s .args .m = omega (arith, h .before .before .before .before .before .before .before .before .before .before .if1 .left) in
-    less-left _ _ _ _ _ _ (l .loop .inv .1 .one .within) (l .loop .inv .1 .two .within) i (pair-moves _ _ _ _ _ _ _ _ _ _ _ _ (pair-at (l .loop .inv .2 .here i) (l .loop .inv .3 .here j) (h .before .before .before .before .before .before .before .end-at .ensures) (h .before .before .before .before .before .before .end-at2 .ensures) (h .before .before .before .before .before .lower .ensures) (h .before .before .before .before .passed .ensures) (h .before .before .before .passed2 .ensures) (h .before .before .ended .ensures) (h .before .ended2 .ensures) (h .higher .ensures)))
+    let i : l .loop .i < s .args .n = omega (arith, h .before .before .before .before .before .before .before .before .before .loop-test .taken) in
+    let j : l .loop .j < s .args .m = omega (arith, h .before .before .before .before .before .before .before .before .if1 .left) in
+    less-left _ _ _ _ _ _ (l .loop .inv .1 .one .within) (l .loop .inv .1 .two .within) i (first-moves (first-at (l .loop .inv .2 .here i) (l .loop .inv .3 .here j) (h .before .before .before .before .before .end-at .ensures) (h .before .before .before .before .end-at2 .ensures) (h .before .before .before .lower .ensures) (h .before .before .first .ensures) (h .before .passed .ensures) (h .waited .ensures)))
 
 loop-again : tie.Need-loop-again Inv-loop μ-loop
 loop-again c =
     let h = c .before .before .before .before .before .before .before in
-    let l = h .before .before .before .before .before .before .before .before .before .before .before .before in
+    let l = h .before .before .before .before .before .before .before .before .before .before in
     let s = l .before .before .before .before .before .before in
-    let i : l .loop .i < s .args .n = omega (arith, h .before .before .before .before .before .before .before .before .before .before .before .loop-test .taken) in
-    let j : l .loop .j < s .args .m = omega (arith, h .before .before .before .before .before .before .before .before .before .before .if1 .left) in (
+    let i : l .loop .i < s .args .n = omega (arith, h .before .before .before .before .before .before .before .before .before .loop-test .taken) in
+    let j : l .loop .j < s .args .m = omega (arith, h .before .before .before .before .before .before .before .before .if1 .left) in (
       c .before .before .before .before .before .join .kept .0 ∙ l .loop .inv .0,
-      united-pair _ _ _ _ _ _ (λ _. refl) (λ _. refl) (ruled-links (s .pre .0)) (ruled-links (s .pre .1 .0)) _ _ _ _ _ _ _ _ _ _ _ _ _ _ i j (pair-at (l .loop .inv .2 .here i) (l .loop .inv .3 .here j) (h .before .before .before .before .before .before .before .end-at .ensures) (h .before .before .before .before .before .before .end-at2 .ensures) (h .before .before .before .before .before .lower .ensures) (h .before .before .before .before .passed .ensures) (h .before .before .before .passed2 .ensures) (h .before .before .ended .ensures) (h .before .ended2 .ensures) (h .higher .ensures)) (l .loop .inv .1) (c .before .before .before .before .before .join .ensures) (omega (arith, h .higher .ok)) (c .before .before .further .ensures),
-      onward-passed (λ (i p : ℕ). Starting (rowAt (s .args .a .now)) (s .args .n) i 0 p) (l .loop .inv .2) (h .before .before .before .before .before .before .before .before .before .start-or3 .ensures) (h .before .before .before .before .passed .ensures) (c .before .onward .ensures),
-      onward-passed (λ (j q : ℕ). Starting (rowAt (s .args .b .now)) (s .args .m) j 0 q) (l .loop .inv .3) (h .before .before .before .before .before .before .before .before .start-or4 .ensures) (h .before .before .before .passed2 .ensures) (c .onward2 .ensures),
+      united-first _ _ _ _ _ _ (λ _. refl) (λ _. refl) (ruled-links (s .pre .0)) (ruled-links (s .pre .1 .0)) _ _ _ _ _ _ _ _ _ _ _ _ i j (first-at (l .loop .inv .2 .here i) (l .loop .inv .3 .here j) (h .before .before .before .before .before .end-at .ensures) (h .before .before .before .before .end-at2 .ensures) (h .before .before .before .lower .ensures) (h .before .before .first .ensures) (h .before .passed .ensures) (h .waited .ensures)) (l .loop .inv .1) (c .before .before .before .before .before .join .ensures) (omega (arith, h .before .before .first .ok)) (c .before .before .further .ensures),
+      onward-passed (λ (i p : ℕ). Starting (rowAt (s .args .a .now)) (s .args .n) i 0 p) (l .loop .inv .2) (h .before .before .before .before .before .before .before .start-or3 .ensures) (h .before .passed .ensures) (c .onward .ensures),
+      picked-both (λ (j q : ℕ). Starting (rowAt (s .args .b .now)) (s .args .m) j 0 q) (l .loop .inv .3) (h .before .before .before .before .before .before .start-or4 .ensures) (h .waited .ensures) (c .before .first2 .ensures),
     )
 
 unite-on-requires-2 : tie.Need-unite-on-requires-2 Inv-loop μ-loop
@@ -171,15 +166,13 @@ unite-spec =
     end-at-requires
     end-at-requires-2
     lower-requires
+    first-requires
     passed-requires
-    passed-requires-2
-    ended-requires
-    ended-requires-2
-    higher-requires
+    waited-requires
     join-requires
     further-requires
+    first-requires-2
     onward-requires
-    onward-requires-2
     loop-less
     loop-again
     unite-on-requires-2

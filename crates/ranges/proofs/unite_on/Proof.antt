@@ -1,4 +1,5 @@
-use Rattle.tables.proofs.Uniting.{united-pair, pair-at, pair-fills, pair-moves, less-left, rest-left, rest-right, holds-other}
+use Rattle.tables.proofs.Uniting.{less-left, rest-left, rest-right, holds-other}
+use Rattle.ranges.proofs.Uniting.{first-at, first-fills, first-moves, united-first}
 use Rattle.tables.proofs.Merging.{union-comm}
 use Rattle.tables.specs.Inner.Unite.{United}
 use Rattle.ranges.specs.Inner.{rowAt}
@@ -14,9 +15,9 @@ use Rattle.ranges.proofs.unite_on.Tie as tie
 use Rattle.ranges.proofs.unite_on.Reads as reads
 use Rattle.ranges.proofs.unite_on.Lts as lts
 use Rattle.ranges.proofs.end_at.Reads as end-at-reads
-use Rattle.ranges.proofs.ended.Reads as ended-reads
+use Rattle.ranges.proofs.first.Reads as first-reads
 use Rattle.ranges.proofs.further.Reads as further-reads
-use Rattle.ranges.proofs.higher.Reads as higher-reads
+use Rattle.ranges.proofs.waited.Reads as waited-reads
 use Rattle.ranges.proofs.join.Reads as join-reads
 use Rattle.ranges.proofs.lower.Reads as lower-reads
 use Rattle.ranges.proofs.passed.Reads as passed-reads
@@ -59,25 +60,19 @@ lower-requires c κs = search needs
 passed-requires : tie.Need-passed-requires Inv-loop μ-loop
 passed-requires c κs = search needs
 
-passed-requires-2 : tie.Need-passed-requires-2 Inv-loop μ-loop
-passed-requires-2 c κs = search needs
+first-requires : tie.Need-first-requires Inv-loop μ-loop
+first-requires c κs = search needs
 
-ended-requires : tie.Need-ended-requires Inv-loop μ-loop
-ended-requires c κs = search needs
-
-ended-requires-2 : tie.Need-ended-requires-2 Inv-loop μ-loop
-ended-requires-2 c κs = search needs
-
-higher-requires : tie.Need-higher-requires Inv-loop μ-loop
-higher-requires c κs = search needs
+waited-requires : tie.Need-waited-requires Inv-loop μ-loop
+waited-requires c κs = search needs
 
 join-requires : tie.Need-join-requires Inv-loop μ-loop
 join-requires c κs =
     let h = c .before in
-    let l = h .before .before .before .before .before .before .before .before .before .before .before .before in
+    let l = h .before .before .before .before .before .before .before .before .before .before in
     let s = l .before .before .before .before in
-    let i = h .before .before .before .before .before .before .before .before .before .before .before .loop-test .taken in
-    let j = h .before .before .before .before .before .before .before .before .before .before .if1 .left in (
+    let i = h .before .before .before .before .before .before .before .before .before .loop-test .taken in
+    let j = h .before .before .before .before .before .before .before .before .if1 .left in (
       omega (arith, l .loop .inv .0, s .pre .1 .1 .0),
       (
         l .loop .inv .1 .last,
@@ -85,7 +80,7 @@ join-requires c κs =
           omega (arith, l .loop .inv .1 .few, s .pre .0 .few, s .pre .1 .0 .few, i, j),
           (
             l .loop .inv .1 .most,
-            pair-fills _ _ _ _ _ _ _ _ _ _ _ _ (s .pre .0 .ruled _ i .filled) (s .pre .1 .0 .ruled _ j .filled) (pair-at (h .before .before .before .before .before .before .before .before .before .start-at .ensures) (h .before .before .before .before .before .before .before .before .start-at2 .ensures) (h .before .before .before .before .before .before .before .end-at .ensures) (h .before .before .before .before .before .before .end-at2 .ensures) (h .before .before .before .before .before .lower .ensures) (h .before .before .before .before .passed .ensures) (h .before .before .before .passed2 .ensures) (h .before .before .ended .ensures) (h .before .ended2 .ensures) (h .higher .ensures)),
+            first-fills (s .pre .0 .ruled _ i .filled) (s .pre .1 .0 .ruled _ j .filled) (first-at (h .before .before .before .before .before .before .before .start-at .ensures) (h .before .before .before .before .before .before .start-at2 .ensures) (h .before .before .before .before .before .end-at .ensures) (h .before .before .before .before .end-at2 .ensures) (h .before .before .before .lower .ensures) (h .before .before .first .ensures) (h .before .passed .ensures) (h .waited .ensures)),
           ),
         ),
       ),
@@ -97,16 +92,16 @@ further-requires c κs = search needs
 loop-less : tie.Need-loop-less Inv-loop μ-loop
 loop-less c =
     let h = c .before .before .before .before .before in
-    let l = h .before .before .before .before .before .before .before .before .before .before .before .before in
-    less-left _ _ _ _ _ _ (l .loop .inv .1 .one .within) (l .loop .inv .1 .two .within) (h .before .before .before .before .before .before .before .before .before .before .before .loop-test .taken) (pair-moves _ _ _ _ _ _ _ _ _ _ _ _ (pair-at (h .before .before .before .before .before .before .before .before .before .start-at .ensures) (h .before .before .before .before .before .before .before .before .start-at2 .ensures) (h .before .before .before .before .before .before .before .end-at .ensures) (h .before .before .before .before .before .before .end-at2 .ensures) (h .before .before .before .before .before .lower .ensures) (h .before .before .before .before .passed .ensures) (h .before .before .before .passed2 .ensures) (h .before .before .ended .ensures) (h .before .ended2 .ensures) (h .higher .ensures)))
+    let l = h .before .before .before .before .before .before .before .before .before .before in
+    less-left _ _ _ _ _ _ (l .loop .inv .1 .one .within) (l .loop .inv .1 .two .within) (h .before .before .before .before .before .before .before .before .before .loop-test .taken) (first-moves (first-at (h .before .before .before .before .before .before .before .start-at .ensures) (h .before .before .before .before .before .before .start-at2 .ensures) (h .before .before .before .before .before .end-at .ensures) (h .before .before .before .before .end-at2 .ensures) (h .before .before .before .lower .ensures) (h .before .before .first .ensures) (h .before .passed .ensures) (h .waited .ensures)))
 
 loop-again : tie.Need-loop-again Inv-loop μ-loop
 loop-again c =
     let h = c .before .before .before .before .before in
-    let l = h .before .before .before .before .before .before .before .before .before .before .before .before in
+    let l = h .before .before .before .before .before .before .before .before .before .before in
     let s = l .before .before .before .before in (
       c .before .before .before .join .kept .0 ∙ l .loop .inv .0,
-      united-pair _ _ _ _ _ _ (λ _. refl) (λ _. refl) (ruled-links (s .pre .0)) (ruled-links (s .pre .1 .0)) _ _ _ _ _ _ _ _ _ _ _ _ _ _ (h .before .before .before .before .before .before .before .before .before .before .before .loop-test .taken) (h .before .before .before .before .before .before .before .before .before .before .if1 .left) (pair-at (h .before .before .before .before .before .before .before .before .before .start-at .ensures) (h .before .before .before .before .before .before .before .before .start-at2 .ensures) (h .before .before .before .before .before .before .before .end-at .ensures) (h .before .before .before .before .before .before .end-at2 .ensures) (h .before .before .before .before .before .lower .ensures) (h .before .before .before .before .passed .ensures) (h .before .before .before .passed2 .ensures) (h .before .before .ended .ensures) (h .before .ended2 .ensures) (h .higher .ensures)) (l .loop .inv .1) (c .before .before .before .join .ensures) (omega (arith, h .higher .ok)) (c .further .ensures),
+      united-first _ _ _ _ _ _ (λ _. refl) (λ _. refl) (ruled-links (s .pre .0)) (ruled-links (s .pre .1 .0)) _ _ _ _ _ _ _ _ _ _ _ _ (h .before .before .before .before .before .before .before .before .before .loop-test .taken) (h .before .before .before .before .before .before .before .before .if1 .left) (first-at (h .before .before .before .before .before .before .before .start-at .ensures) (h .before .before .before .before .before .before .start-at2 .ensures) (h .before .before .before .before .before .end-at .ensures) (h .before .before .before .before .end-at2 .ensures) (h .before .before .before .lower .ensures) (h .before .before .first .ensures) (h .before .passed .ensures) (h .waited .ensures)) (l .loop .inv .1) (c .before .before .before .join .ensures) (omega (arith, h .before .before .first .ok)) (c .further .ensures),
     )
 
 rest-requires-2 : tie.Need-rest-requires-2 Inv-loop μ-loop
@@ -133,11 +128,9 @@ unite-on-spec =
     end-at-requires
     end-at-requires-2
     lower-requires
+    first-requires
     passed-requires
-    passed-requires-2
-    ended-requires
-    ended-requires-2
-    higher-requires
+    waited-requires
     join-requires
     further-requires
     loop-less
