@@ -6,6 +6,7 @@ pub mod Stores
 pub mod Keeping
 pub mod Uniting
 pub mod Moving
+pub mod Parts
 pub mod Editing
 pub mod Growing
 pub mod Looking

@@ -14,10 +14,10 @@ use Rattle.ranges.specs.Inner.{Picked}
 pub record First (p q s t x y i i′ j j′ : ℕ) : Type 0 where
   pub least : x ≡ min p q
   pub end : Picked p q s t y
-  pub one : Passed p q i i′
+  pub one : Passed p x i i′
   pub two : Picked p q j (j + 1) j′
 
-pub first-at : {p q s t p₁ q₁ s₁ t₁ x y i i′ j j′ : ℕ} → p ≡ p₁ → q ≡ q₁ → s ≡ s₁ → t ≡ t₁ → x ≡ min p q → Picked p q s t y → Passed p q i i′ → Picked p q j (j + 1) j′
+pub first-at : {p q s t p₁ q₁ s₁ t₁ x y i i′ j j′ : ℕ} → p ≡ p₁ → q ≡ q₁ → s ≡ s₁ → t ≡ t₁ → x ≡ min p q → Picked p q s t y → Passed p x i i′ → Picked p q j (j + 1) j′
     → First p₁ q₁ s₁ t₁ x y i i′ j j′
 first-at {x = x} {y} {i} {i′} {j} {j′} a b c d l e f g =
     record {
@@ -31,7 +31,7 @@ pub first-fills : {p q s t x y i i′ j j′ : ℕ} → p < s → q < t → Firs
 first-fills {p} {q} a b f = ⊎-elim (λ h. omega (arith, f .least, f .end .off h)) (λ h. omega (arith, f .least, f .end .on h)) (split q p)
 
 pub first-moves : {p q s t x y i i′ j j′ : ℕ} → First p q s t x y i i′ j j′ → i + j < i′ + j′
-first-moves {p} {q} f = ⊎-elim (λ h. omega (arith, f .one .off h, f .two .off h)) (λ h. omega (arith, f .one .on h, f .two .on h)) (split q p)
+first-moves {p} {q} f = ⊎-elim (λ h. omega (arith, f .one .off (omega (arith, f .least)), f .two .off h)) (λ h. omega (arith, f .one .on (omega (arith, f .least)), f .two .on h)) (split q p)
 
 module _ (row : ℕ → Row) (n : ℕ) (u : (j : ℕ) → row j .weight ≡ 1) (f : (j : ℕ) → j < n → Links row j) where
   took : (i c x y : ℕ) → i < n → Rest row n i c → x ≡ row i .start → y ≡ row i .end → Side row n c (i + 1) x y
@@ -55,9 +55,9 @@ pub united-first : (cap : ℕ) (ra : ℕ → Row) (n : ℕ) (rb : ℕ → Row) (
     (i j k e r x y i′ j′ f : ℕ) (row row′ : ℕ → Row) → i < n → j < m → First (ra i .start) (rb j .start) (ra i .end) (rb j .end) x y i i′ j j′
     → United cap ra n i rb m j room row k e → Adds room row k e x y row′ r → y < cap → f ≡ max e (y + 1) → United cap ra n i′ rb m j′ room row′ r f
 united-first cap ra n rb m room u v fa fb i j k e r x y i′ j′ f row row′ a b w p d o g = ⊎-elim
-    (λ h. to (sym (w .one .off h)) (sym (w .two .off h))
+    (λ h. to (sym (w .one .off (omega (arith, w .least)))) (sym (w .two .off h))
     (united-swap cap rb m (j + 1) ra n i room row′ r (max e (y + 1)) (united-left cap rb m ra n room v u fb fa j i k e r x y row row′ b a (omega (arith, w .least)) (omega (arith, w .least)) (w .end .off h) (united-swap cap ra n i rb m j room row k e p) d o)))
-    (λ h. to (sym (w .one .on h)) (sym (w .two .on h)) (united-left cap ra n rb m room u v fa fb i j k e r x y row row′ a b (omega (arith, w .least)) (omega (arith, w .least)) (w .end .on h) p d o))
+    (λ h. to (sym (w .one .on (omega (arith, w .least)))) (sym (w .two .on h)) (united-left cap ra n rb m room u v fa fb i j k e r x y row row′ a b (omega (arith, w .least)) (omega (arith, w .least)) (w .end .on h) p d o))
     (split (rb j .start) (ra i .start))
   where
     to : {i₁ j₁ : ℕ} → i₁ ≡ i′ → j₁ ≡ j′ → United cap ra n i₁ rb m j₁ room row′ r (max e (y + 1)) → United cap ra n i′ rb m j′ room row′ r f

@@ -461,7 +461,7 @@ fn ending(t: &[u32], n: usize, i: usize) -> u32
 fn first(p: u32, q: u32, s: u32, t: u32) -> u32
     ensures { λ r. ⌜ Picked p q s t r ⌝ }
 {
-    if p <= q { s } else { t }
+    if q < p { t } else { s }
 }
 
 // The next row, where the left one at `p` is not the first.
@@ -469,7 +469,7 @@ fn waited(j: usize, p: u32, q: u32) -> usize
     requires { ⌜ j ≤ rowLimit ⌝ }
     ensures { λ r. ⌜ Picked p q j (j + 1) r ⌝ }
 {
-    if p <= q { j } else { j + 1 }
+    if q < p { j + 1 } else { j }
 }
 
 // One row more, where it starts past the last.
@@ -568,7 +568,7 @@ fn unite_on(
         let t = end_at(b, j);
         let x = lower(p, q);
         let y = first(p, q, s, t);
-        i = passed(i, p, q);
+        i = passed(i, p, x);
         j = waited(j, p, q);
         k = join(out, most, k, e, x, y);
         e = further(e, y);
@@ -599,12 +599,12 @@ fn unite(a: &[u32], n: usize, b: &[u32], m: usize, out: &mut [u32], most: usize)
         let t = end_at(b, j);
         let x = lower(p, q);
         let y = first(p, q, s, t);
-        i = passed(i, p, q);
+        i = passed(i, p, x);
         j = waited(j, p, q);
         k = join(out, most, k, e, x, y);
         e = further(e, y);
         let w = first(p, q, q, v);
-        p = onward(p, q, u);
+        p = onward(p, x, u);
         q = w;
     }
     unite_on(a, n, i, b, m, j, out, most, k, e)
@@ -755,17 +755,15 @@ pub fn get(t: &[u32], n: usize, index: usize) -> Found
 
 // ## from_ranges: in the output itself.
 
-// The rows from `i` on, one row up: from the back, so that none is written over.
-fn move_up(out: &mut [u32], i: usize, k: usize)
-    requires { ⌜ i ≤ k ⌝ }
-    requires { ⌜ 2 * (k + 1) ≤ length (now out) ⌝ }
-    ensures { λ r. ⌜ Moved (rowAt (now (out .entry))) i k (rowAt (now (out .entry))) (i + 1) (rowAt (now (out .exit))) ⌝ }
+// The first `k` rows, one row up: from the back, so that none is written over. Over a part that starts at 0 this becomes one `memmove`.
+fn move_up(part: &mut [u32], k: usize)
+    requires { ⌜ 2 * (k + 1) ≤ length (now part) ⌝ }
+    ensures { λ r. ⌜ Moved (rowAt (now (part .entry))) 0 k (rowAt (now (part .entry))) 1 (rowAt (now (part .exit))) ⌝ }
 {
-    let from = 2 * i;
     let mut w = 2 * k;
-    while from < w {
+    while 0 < w {
         let next = w - 1;
-        out[next + 2] = out[next];
+        part[next + 2] = part[next];
         w = next;
     }
 }
@@ -796,7 +794,10 @@ fn shift(out: &mut [u32], i: usize, j: usize, k: usize)
     ensures { λ r. ⌜ Moved (rowAt (now (out .entry))) j k (rowAt (now (out .entry))) (i + 1) (rowAt (now (out .exit))) ⌝ }
 {
     if i == j {
-        move_up(out, j, k);
+        move_up(&mut out[2 * j..], k - j);
+        return;
+    }
+    if j == i + 1 {
         return;
     }
     move_down(out, j, k, i + 1);
