@@ -1,5 +1,5 @@
 -- The answers to questions about a table, by the index of a row. Assumes nothing.
-use mathlib.Core.Logic.{_↔_}
+use mathlib.Core.Logic.{_↔_, ⊎-elim}
 use mathlib.Core.Path.{_≡_, refl, ap, sym, subst, _∙_}
 use mathlib.Core.Bool.{Bool, true, false}
 use mathlib.Core.List.{List, [], _∷_, map}
@@ -15,7 +15,8 @@ use Rattle.tables.specs.Inner.Rows as inner
 use Rattle.tables.specs.Inner.Rows.{at, span}
 use Rattle.tables.specs.Inner.Edit.{Parted, ends}
 use Rattle.tables.proofs.Saying.{says-yes, says-no}
-use Rattle.tables.proofs.Finding.{ends-rise}
+use Rattle.tables.proofs.Finding.{ends-rise, look-right, look-left, look-at, look-empty}
+use Rattle.tables.proofs.Joining.{split}
 use Rattle.ranges.specs.Rows.{Row, row, Holds, findStart, clockStart, clockEnd, get}
 use Rattle.ranges.specs.Tables.{rows, Table}
 use Rattle.ranges.specs.Inner.{rowAt, rowsOf, bare, Ruled}
@@ -27,19 +28,6 @@ refused s e = refuses (λ t. s .wrong e (table-ruled t)) refl
 
 pub told : {A : Type 0} {right : A → Type 0} {none : A} {l : List ℕ} {n : ℕ} {b : Bool} → Says (Ruled l n) b → b ≡ true → (v : A) → (Ruled l n → right v) → Tells (Table l n) right none (answer 0 v)
 told s e v r = let t = s .right e in says (ruled-table t) refl (r t)
-
--- ## Membership
-
-holds-rows : (l : List ℕ) (n x : ℕ) → Ruled l n → Holds (rows l n) x ↔ (0 < at (span (rowAt l) 0 (n - 0)) x)
-holds-rows l n x t =
-    let e : at (map plain (rows l n)) x ≡ at (span (rowAt l) 0 (n - 0)) x
-    = ap (λ (rs : inner.Rows). at rs x) (rows-plain l n (t .fits)) ∙ ap (λ (k : ℕ). at (span (rowAt l) 0 k) x) (let z : n ≡ n - 0 = omega arith in z) in
-    (λ h. subst (λ (v : ℕ). 0 < v) e (holds-plain (rows l n) x .0 h), λ h. holds-plain (rows l n) x .1 (subst (λ (v : ℕ). 0 < v) (sym e) h))
-
-pub says-holds : {b c : Bool} (l : List ℕ) (n x : ℕ) → Says (0 < at (span (rowAt l) 0 (n - 0)) x) b → b ≡ c → Ruled l n → Says (Holds (rows l n) x) c
-says-holds l n x s e t =
-    let h = holds-rows l n x t in
-    subst (λ (r : Bool). Says (Holds (rows l n) x) r) e (record { right = λ y. h .1 (s .right y); wrong = λ y q. s .wrong y (h .0 q) })
 
 -- ## The row at an index
 
@@ -125,3 +113,30 @@ found-at x l n i p h t = find-row x l n i (t .fits) h (ended-by x l n i t p) (om
 
 pub found-none : (x : ℕ) (l : List ℕ) (n i : ℕ) → Parted (ends (rowAt l)) n (x + 1) i i → n ≤ i → Ruled l n → none ≡ findStart (rows l n) x
 found-none x l n i p h t = find-none x l n (t .fits) (λ j m. ended-by x l n i t p j (omega arith))
+
+-- ## Membership
+
+holds-rows : (l : List ℕ) (n x : ℕ) → Ruled l n → Holds (rows l n) x ↔ (0 < at (span (rowAt l) 0 (n - 0)) x)
+holds-rows l n x t =
+    let e : at (map plain (rows l n)) x ≡ at (span (rowAt l) 0 (n - 0)) x
+    = ap (λ (rs : inner.Rows). at rs x) (rows-plain l n (t .fits)) ∙ ap (λ (k : ℕ). at (span (rowAt l) 0 k) x) (let z : n ≡ n - 0 = omega arith in z) in
+    (λ h. subst (λ (v : ℕ). 0 < v) e (holds-plain (rows l n) x .0 h), λ h. holds-plain (rows l n) x .1 (subst (λ (v : ℕ). 0 < v) (sym e) h))
+
+-- the first row that ends past x starts at x or before
+pub held-at : (x : ℕ) (l : List ℕ) (n i : ℕ) → Parted (ends (rowAt l)) n (x + 1) i i → i < n → rowAt l i .start ≤ x → Ruled l n → Says (Holds (rows l n) x) true
+held-at x l n i p h s t =
+    says-yes (holds-rows l n x t .1 (look-at (rowAt l) n (ruled-links t) x 0 i n (omega arith) (omega arith) h s (omega (arith, p .above h))))
+
+-- the rows before it end at x or before
+ended-all : (x : ℕ) (l : List ℕ) (n i : ℕ) → Parted (ends (rowAt l)) n (x + 1) i i → Ruled l n → Says (0 < at (span (rowAt l) 0 (i - 0)) x) false
+ended-all x l n zero p t = says-no (look-empty (rowAt l) n (ruled-links t) x 0 0 (omega arith))
+ended-all x l n (suc i) p t =
+    look-right (rowAt l) n (ruled-links t) x 0 i (suc i) false (p .within) (omega arith) (omega arith) (omega (arith, p .below i refl)) (says-no (look-empty (rowAt l) n (ruled-links t) x (i + 1) (suc i) (omega arith)))
+
+pub held-none : (x : ℕ) (l : List ℕ) (n i : ℕ) → Parted (ends (rowAt l)) n (x + 1) i i → (i < n → x < rowAt l i .start) → Ruled l n → Says (Holds (rows l n) x) false
+held-none x l n i p s t =
+    let e = ended-all x l n i p t in
+    let w : Says (0 < at (span (rowAt l) 0 (n - 0)) x) false
+    = ⊎-elim (λ h. look-left (rowAt l) n (ruled-links t) x 0 i n false (omega arith) (omega arith) h (s h) e)
+    (λ h. subst (λ (k : ℕ). Says (0 < at (span (rowAt l) 0 (k - 0)) x) false) (let z : i ≡ n = omega (arith, p .within) in z) e) (split i n) in
+    says-no (λ h. w .wrong refl (holds-rows l n x t .0 h))

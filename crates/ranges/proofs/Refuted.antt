@@ -1,17 +1,18 @@
 -- Wrong programs that the promises exclude: document 01, "How tight the statements are" and "Errors that tempt". Assumes nothing.
 use mathlib.Core.Logic.{_⊎_, inl, inr, ⊎-elim}
-use mathlib.Core.Path.{_≡_, refl, ap, sym, _∙_}
+use mathlib.Core.Path.{_≡_, refl, ap, sym, subst, _∙_}
 use mathlib.Core.List.{List, [], _∷_}
-use Prim.Native.Nat.{ℕ, zero, suc, _≤_, _<_}
+use Prim.Native.Nat.{ℕ, zero, suc, _-_, _≤_, _<_}
 use native.Mathlib.Omega.{arith}
-use lib.ListN.{length}
+use lib.ListN.{length, getD, replicate}
 use Rattle.varint.specs.declared.Refusal.the-variants.{Full, Malformed}
-use Rattle.tables.specs.Answers.{Answer, Gives, done, full, malformed, says, refuses}
+use Rattle.tables.specs.Answers.{Answer, answer, Gives, done, full, malformed, says, refuses}
 use Rattle.tables.specs.declared.Made.{Made}
 use Rattle.tables.specs.declared.Made.the-variants as made
 use Rattle.tables.specs.declared.Told.the-variants.{Yes}
 use Rattle.ranges.specs.Rows.{Row, row, Joined}
-use Rattle.ranges.specs.Tables.{rows, flat, filled, Merged, FromRanges, ContainsClock}
+use Rattle.ranges.specs.Tables.{rows, most, flat, filled, Merged, Fills, FromRanges, ContainsClock}
+use Rattle.ranges.specs.Tables as fills
 use Rattle.ranges.proofs.Determined.{writes-determined, from-ranges-determined}
 use Rattle.ranges.proofs.Orders.{apart, apart-refused}
 
@@ -94,3 +95,30 @@ last-only h =
     let e : made.Refused Full ≡ made.Rows 1 = from-ranges-determined apart 3 2 _ _ _ _ apart-refused h .0 in
     let z : _≡_ {A = ℕ} 0 1 = cc in
     omega arith
+
+-- ## What a refusal leaves: "On refusal every element is zero and the count is 0."
+
+-- a refusal beside which stands a count, or after which an element is not zero, be it the spare odd one
+abbrev Leaves : List ℕ → Answer ℕ → Type 0
+Leaves out a = (0 < a .no) × ((0 < a .value) ⊎ ((i : ℕ) × (0 < getD out i 0)))
+
+zeros : (n i : ℕ) → 0 < getD (replicate n 0) i 0 → ⊥
+zeros zero i h = omega arith
+zeros (suc n) zero h = omega arith
+zeros (suc n) (suc i) h = zeros n i h
+
+leaves-none : (len : ℕ) {no : ℕ} {out : List ℕ} {a : Answer ℕ} → a ≡ answer no 0 → out ≡ filled len [] → Leaves out a → ⊥
+unfolding flat
+leaves-none len e f (w, inl h) = omega (arith, ap (λ (b : Answer ℕ). b .value) e)
+leaves-none len e f (w, inr (i, h)) = zeros (len - 0) i (subst (λ (o : List ℕ). 0 < getD o i 0) f h)
+
+-- of every routine that writes a table
+pub refusal-leaves : {ok : Type 0} {right : List Row → Type 0} (len : ℕ) {out : List ℕ} {a : Answer ℕ} → Gives ok right (most len) (filled len) out a → Leaves out a → ⊥
+refusal-leaves len (done t o r l e f) w = omega (arith, w .0, ap (λ (b : Answer ℕ). b .no) e)
+refusal-leaves len (full t o r l e f) w = leaves-none len e f w
+refusal-leaves len (malformed n e f) w = leaves-none len e f w
+
+pub from-ranges-leaves : {l : List ℕ} {n len : ℕ} {out : List ℕ} {a : Answer ℕ} → Fills l n len out a → Leaves out a → ⊥
+from-ranges-leaves {len = len} (fills.done t h p s e f) w = omega (arith, w .0, ap (λ (b : Answer ℕ). b .no) e)
+from-ranges-leaves {len = len} (fills.full i u h k q m e f) w = leaves-none len e f w
+from-ranges-leaves {len = len} (fills.malformed h e f) w = leaves-none len e f w

@@ -34,3 +34,8 @@ bare r = row (r .start) (r .end)
 pub record Wrote (rs : inner.Rows) (len : ℕ) (out : List ℕ) (r : Made) : Type 0 where
   pub full : most len < length rs → (r ≡ made.Refused Full) × (out ≡ filled len [])
   pub done : length rs ≤ most len → (r ≡ made.Rows (length rs)) × (out ≡ filled len (map bare rs))
+
+-- a where p is not past x, else b
+pub record Picked (p x a b r : ℕ) : Type 0 where
+  pub on : p ≤ x → r ≡ a
+  pub off : x < p → r ≡ b

@@ -5,15 +5,15 @@ ghost use mathlib.Core.List.{_++_};
 ghost use lib.ListN.{length};
 ghost use Rattle.tables.specs.Answers.{Says};
 ghost use Rattle.tables.specs.Limits.{rowLimit};
-ghost use Rattle.tables.specs.Inner.Rows.{Rows, at, span, combined, union, difference, intersection};
+ghost use Rattle.tables.specs.Inner.Rows.{Rows, span, combined, union, difference, intersection};
 ghost use Rattle.tables.specs.Inner.Sweep.{Holds};
-ghost use Rattle.tables.specs.Inner.Unite.{Passed, Ended, Counted, Starts, Ends, Last, Adds, United};
+ghost use Rattle.tables.specs.Inner.Unite.{Passed, Counted, Starts, Ends, Last, Adds, United};
 ghost use Rattle.tables.specs.Inner.Cross.{Keeps};
 ghost use Rattle.tables.specs.Inner.Differ.{GapStart, GapEnd};
 ghost use Rattle.tables.specs.Inner.Ends.{Stores, Dropped, Raised, Below, Above, Halves, GapsFrom, GapsTo};
 ghost use Rattle.tables.specs.Inner.Edit.{range, Advanced, Parted, starts, ends, Starting, Ending, Moved, Stands};
 ghost use Rattle.ranges.specs.Tables.{most, Merged, Excluded, Intersected, Inserted, Removed, FromRanges, ContainsClock, FindStart, ClockStart, ClockEnd, Len, IsEmpty, Get};
-ghost use Rattle.ranges.specs.Inner.{rowAt, rowsOf, Ruled, Wrote};
+ghost use Rattle.ranges.specs.Inner.{rowAt, rowsOf, Ruled, Wrote, Picked};
 
 // An index, or none, or why there is no answer.
 pub enum Place {
@@ -185,39 +185,6 @@ pub fn clock_end(t: &[u32], n: usize) -> Edge
     Edge::At(tables::Clock(end_at(t, n - 1)))
 }
 
-// Whether one of the rows lo, .., hi - 1 holds `x`: each look halves the rows still possible.
-fn search(t: &[u32], n: usize, lo: usize, hi: usize, x: u32) -> bool
-    requires { ⌜ Ruled (now t) n ⌝ }
-    requires { ⌜ hi ≤ n ⌝ }
-    ensures { λ r. ⌜ Says (0 < at (span (rowAt (now (t .entry))) lo (hi - lo)) x) r ⌝ }
-{
-    if hi <= lo {
-        return false;
-    }
-    let mid = (lo + (hi - 1)) / 2;
-    if end_at(t, mid) <= x {
-        return search(t, n, mid + 1, hi, x);
-    }
-    if x < start_at(t, mid) {
-        return search(t, n, lo, mid, x);
-    }
-    true
-}
-
-// Whether the table holds the clock.
-pub fn contains_clock(t: &[u32], n: usize, clock: tables::Clock) -> tables::Told
-    ensures { λ r. ⌜ ContainsClock (now (t .entry)) n (clock .0) r ⌝ }
-{
-    if !well_formed(t, n) {
-        return tables::Told::Refused(varint::Refusal::Malformed);
-    }
-    let x = clock.0;
-    if search(t, n, 0, n, x) {
-        return tables::Told::Yes;
-    }
-    tables::Told::No
-}
-
 // `half` where `m` is below `x`, else 0: reckoned, for a branch here would be mispredicted every other time.
 fn advance(m: u32, x: u64, half: usize) -> usize
     requires { ⌜ x ≤ 4294967296 ⌝ }
@@ -256,6 +223,24 @@ pub fn find_start(t: &[u32], n: usize, clock: tables::Clock) -> Place
         return Place::Nothing;
     }
     Place::At(i)
+}
+
+// Whether the table holds the clock: the first row that ends past it does, or none.
+pub fn contains_clock(t: &[u32], n: usize, clock: tables::Clock) -> tables::Told
+    ensures { λ r. ⌜ ContainsClock (now (t .entry)) n (clock .0) r ⌝ }
+{
+    if !well_formed(t, n) {
+        return tables::Told::Refused(varint::Refusal::Malformed);
+    }
+    let x = clock.0;
+    let row = ends_below(t, n, x as u64 + 1);
+    if n <= row {
+        return tables::Told::No;
+    }
+    if x < start_at(t, row) {
+        return tables::Told::No;
+    }
+    tables::Told::Yes
 }
 
 // ## Insert and remove: the rows that the range meets are found by halving, the others are copied.
@@ -455,11 +440,26 @@ fn passed(i: usize, p: u32, x: u32) -> usize
     if p <= x { i + 1 } else { i }
 }
 
-// The end of a row that starts at `x` or before, else 0.
-fn ended(p: u32, x: u32, e: u32) -> u32
-    ensures { λ r. ⌜ Ended p x e r ⌝ }
+// `next` of the next row, where `p` of this one is not past `x`. It is read before that is known: so the loads wait for no comparison.
+fn onward(p: u32, x: u32, next: u32) -> u32
+    ensures { λ r. ⌜ Picked p x next p r ⌝ }
 {
-    if p <= x { e } else { 0 }
+    if p <= x { next } else { p }
+}
+
+// What belongs to the row that starts first, at `p` or at `q`: of two that start together, the left one.
+fn first(p: u32, q: u32, s: u32, t: u32) -> u32
+    ensures { λ r. ⌜ Picked p q s t r ⌝ }
+{
+    if q < p { t } else { s }
+}
+
+// The next row, where the left one at `p` is not the first.
+fn waited(j: usize, p: u32, q: u32) -> usize
+    requires { ⌜ j ≤ rowLimit ⌝ }
+    ensures { λ r. ⌜ Picked p q j (j + 1) r ⌝ }
+{
+    if q < p { j + 1 } else { j }
 }
 
 // One row more, where it starts past the last.
@@ -525,7 +525,48 @@ fn rest(
     k
 }
 
-// The rows of the union, a row a step, as many as there is room for, and how many there are.
+// The rows of `a` from `i` on and of `b` from `j` on, a row a step.
+fn unite_on(
+    a: &[u32],
+    n: usize,
+    i0: usize,
+    b: &[u32],
+    m: usize,
+    j0: usize,
+    out: &mut [u32],
+    most: usize,
+    k0: usize,
+    e0: u64,
+) -> usize
+    requires { ⌜ Ruled (now a) n ⌝ }
+    requires { ⌜ Ruled (now b) m ⌝ }
+    requires { ⌜ 2 * most ≤ length (now out) ⌝ }
+    requires { ⌜ United 4294967296 (rowAt (now a)) n i0 (rowAt (now b)) m j0 most (rowAt (now out)) k0 e0 ⌝ }
+    ensures { λ r. ⌜ Holds most (rowAt (now (out .exit))) r (combined union (rowsOf (now (a .entry)) n) (rowsOf (now (b .entry)) m)) ⌝ }
+{
+    let mut i = i0;
+    let mut j = j0;
+    let mut k = k0;
+    let mut e = e0;
+    while i < n {
+        if m <= j {
+            return rest(a, n, i, b, m, out, most, k, e);
+        }
+        let p = start_at(a, i);
+        let q = start_at(b, j);
+        let s = end_at(a, i);
+        let t = end_at(b, j);
+        let x = lower(p, q);
+        let y = first(p, q, s, t);
+        i = passed(i, p, x);
+        j = waited(j, p, q);
+        k = join(out, most, k, e, x, y);
+        e = further(e, y);
+    }
+    rest(b, m, j, a, n, out, most, k, e)
+}
+
+// The rows of the union, as many as there is room for, and how many there are. While both tables have a row after this one, its start is read ahead.
 fn unite(a: &[u32], n: usize, b: &[u32], m: usize, out: &mut [u32], most: usize) -> usize
     requires { ⌜ Ruled (now a) n ⌝ }
     requires { ⌜ Ruled (now b) m ⌝ }
@@ -536,22 +577,27 @@ fn unite(a: &[u32], n: usize, b: &[u32], m: usize, out: &mut [u32], most: usize)
     let mut j: usize = 0;
     let mut k: usize = 0;
     let mut e: u64 = 0;
-    while i < n {
-        if m <= j {
-            return rest(a, n, i, b, m, out, most, k, e);
+    let mut p = start_or(a, n, 0, 0);
+    let mut q = start_or(b, m, 0, 0);
+    while i + 1 < n {
+        if m <= j + 1 {
+            return unite_on(a, n, i, b, m, j, out, most, k, e);
         }
-        let p = start_at(a, i);
-        let q = start_at(b, j);
+        let u = start_or(a, n, i + 1, 0);
+        let v = start_or(b, m, j + 1, 0);
         let s = end_at(a, i);
         let t = end_at(b, j);
         let x = lower(p, q);
+        let y = first(p, q, s, t);
         i = passed(i, p, x);
-        j = passed(j, q, x);
-        let y = higher(ended(p, x, s), ended(q, x, t));
+        j = waited(j, p, q);
         k = join(out, most, k, e, x, y);
         e = further(e, y);
+        let w = first(p, q, q, v);
+        p = onward(p, x, u);
+        q = w;
     }
-    rest(b, m, j, a, n, out, most, k, e)
+    unite_on(a, n, i, b, m, j, out, most, k, e)
 }
 
 // Union.
@@ -898,17 +944,15 @@ pub fn get(t: &[u32], n: usize, index: usize) -> Found
 
 // ## from_ranges: in the output itself.
 
-// The rows from `i` on, one row up: from the back, so that none is written over.
-fn move_up(out: &mut [u32], i: usize, k: usize)
-    requires { ⌜ i ≤ k ⌝ }
-    requires { ⌜ 2 * (k + 1) ≤ length (now out) ⌝ }
-    ensures { λ r. ⌜ Moved (rowAt (now (out .entry))) i k (rowAt (now (out .entry))) (i + 1) (rowAt (now (out .exit))) ⌝ }
+// The first `k` rows, one row up: from the back, so that none is written over. Over a part that starts at 0 this becomes one `memmove`.
+fn move_up(part: &mut [u32], k: usize)
+    requires { ⌜ 2 * (k + 1) ≤ length (now part) ⌝ }
+    ensures { λ r. ⌜ Moved (rowAt (now (part .entry))) 0 k (rowAt (now (part .entry))) 1 (rowAt (now (part .exit))) ⌝ }
 {
-    let from = 2 * i;
     let mut w = 2 * k;
-    while from < w {
+    while 0 < w {
         let next = w - 1;
-        out[next + 2] = out[next];
+        part[next + 2] = part[next];
         w = next;
     }
 }
@@ -939,7 +983,10 @@ fn shift(out: &mut [u32], i: usize, j: usize, k: usize)
     ensures { λ r. ⌜ Moved (rowAt (now (out .entry))) j k (rowAt (now (out .entry))) (i + 1) (rowAt (now (out .exit))) ⌝ }
 {
     if i == j {
-        move_up(out, j, k);
+        move_up(&mut out[2 * j..], k - j);
+        return;
+    }
+    if j == i + 1 {
         return;
     }
     move_down(out, j, k, i + 1);

@@ -1,15 +1,14 @@
-use mathlib.Core.Path.{ap, sym, refl, _∙_}
 use mathlib.Core.Bool.{true, false}
-use mathlib.Core.Option.{none, some}
 use native.Mathlib.Omega.{arith}
 use borrow.Author.Tests.{not-true, not-false}
-use Rattle.ranges.proofs.Asking.{refused, told, says-holds}
+use Rattle.ranges.proofs.Asking.{refused, told, held-at, held-none}
 use borrow.Author.Needs.{needs}
 use Rattle.ranges.proofs.contains_clock.Statement.{statement}
 use Rattle.ranges.proofs.contains_clock.Tie as tie
 use Rattle.ranges.proofs.contains_clock.Reads as reads
 use Rattle.ranges.proofs.contains_clock.Lts as lts
-use Rattle.ranges.proofs.search.Reads as search-reads
+use Rattle.ranges.proofs.ends_below.Reads as ends-below-reads
+use Rattle.ranges.proofs.start_at.Reads as start-at-reads
 use Rattle.ranges.proofs.well_formed.Reads as well-formed-reads
 
 well-formed-requires : tie.Need-well-formed-requires
@@ -18,15 +17,37 @@ well-formed-requires c κs = search needs
 returns : tie.Need-returns
 returns c = refused (c .before .well-formed .ensures) (not-true _ (c .if1 .taken))
 
-search-requires : tie.Need-search-requires
-search-requires c κs = (c .before .well-formed .ensures .right (not-false _ (c .if1 .left)), omega arith)
+cast-ends-below : tie.Need-cast-ends-below
+cast-ends-below c = search needs
+
+add-ends-below : tie.Need-add-ends-below
+add-ends-below c = search needs
+
+ends-below-requires : tie.Need-ends-below-requires
+ends-below-requires c κs = let t = c .before .well-formed .ensures .right (not-false _ (c .if1 .left)) in (t, omega arith)
 
 returns-2 : tie.Need-returns-2
-returns-2 c = told (c .before .before .before .well-formed .ensures) (not-false _ (c .before .before .if1 .left)) true (says-holds _ _ _ (c .before .search .ensures) (c .if2 .taken))
+returns-2 c = told (c .before .before .before .well-formed .ensures) (not-false _ (c .before .before .if1 .left)) false (held-none _ _ _ _ (c .before .ends-below .ensures) (λ h. absurd (omega arith)))
+
+start-at-requires : tie.Need-start-at-requires
+start-at-requires c κs = omega (arith, c .before .before .before .well-formed .ensures .right (not-false _ (c .before .before .if1 .left)) .fits)
 
 returns-3 : tie.Need-returns-3
-returns-3 c = told (c .before .before .before .well-formed .ensures) (not-false _ (c .before .before .if1 .left)) false (says-holds _ _ _ (c .before .search .ensures) (c .if2 .left))
+returns-3 c = told (c .before .before .before .before .before .well-formed .ensures) (not-false _ (c .before .before .before .before .if1 .left)) false (held-none _ _ _ _ (c .before .before .before .ends-below .ensures) (λ h. omega (arith, c .before .start-at .ensures)))
+
+returns-4 : tie.Need-returns-4
+returns-4 c = told (c .before .before .before .before .before .well-formed .ensures) (not-false _ (c .before .before .before .before .if1 .left)) true (held-at _ _ _ _ (c .before .before .before .ends-below .ensures) (omega arith) (omega (arith, c .before .start-at .ensures)))
 
 pub contains-clock-spec : {M : Type 1} → statement M
 contains-clock-spec =
-    tie.close (tie.spec well-formed-requires returns search-requires returns-2 returns-3)
+    tie.close
+    (tie.spec
+    well-formed-requires
+    returns
+    cast-ends-below
+    add-ends-below
+    ends-below-requires
+    returns-2
+    start-at-requires
+    returns-3
+    returns-4)

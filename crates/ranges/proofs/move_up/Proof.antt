@@ -10,49 +10,46 @@ use Rattle.ranges.proofs.move_up.Reads as reads
 use Rattle.ranges.proofs.move_up.Lts as lts
 
 abbrev Inv-loop : tie.InvT-loop
-Inv-loop out₀ i k from w₀ out w = Raised out₀ w (2 * k) out × (2 * i ≤ w) × (w ≤ 2 * k)
+Inv-loop part₀ k w₀ part w = Raised part₀ w (2 * k) part × (w ≤ 2 * k)
 
 abbrev μ-loop : tie.MeasureT-loop
-μ-loop out₀ i k from w₀ out w = w
-
-mul-from : tie.Need-mul-from Inv-loop μ-loop
-mul-from c = search needs
+μ-loop part₀ k w₀ part w = w
 
 mul-w : tie.Need-mul-w Inv-loop μ-loop
 mul-w c = search needs
 
 loop-holds : tie.Need-loop-holds Inv-loop μ-loop
-loop-holds c = (raised-none _ _, omega arith, omega arith)
+loop-holds c = (raised-none _ _, omega arith)
 
 sub-next : tie.Need-sub-next Inv-loop μ-loop
 sub-next c = search needs
 
-mul-out : tie.Need-mul-out Inv-loop μ-loop
-mul-out c = search needs
+mul-part : tie.Need-mul-part Inv-loop μ-loop
+mul-part c = search needs
 
-slice-read-out : tie.Need-slice-read-out Inv-loop μ-loop
-slice-read-out c = omega (arith, c .before .before .loop .inv .0 .same)
+slice-read-part : tie.Need-slice-read-part Inv-loop μ-loop
+slice-read-part c = omega (arith, c .before .before .loop .inv .0 .same)
 
-add-out : tie.Need-add-out Inv-loop μ-loop
-add-out c = search needs
+add-part : tie.Need-add-part Inv-loop μ-loop
+add-part c = search needs
 
-mul-out-2 : tie.Need-mul-out-2 Inv-loop μ-loop
-mul-out-2 c = search needs
+mul-part-2 : tie.Need-mul-part-2 Inv-loop μ-loop
+mul-part-2 c = search needs
 
-slice-write-out : tie.Need-slice-write-out Inv-loop μ-loop
-slice-write-out c = omega (arith, c .before .before .loop .inv .0 .same)
+slice-write-part : tie.Need-slice-write-part Inv-loop μ-loop
+slice-write-part c = omega (arith, c .before .before .loop .inv .0 .same)
 
 loop-less : tie.Need-loop-less Inv-loop μ-loop
 loop-less c = search needs
 
 loop-again : tie.Need-loop-again Inv-loop μ-loop
-loop-again c = (raised-more _ (c .before .before .loop .inv .0) (omega arith) (omega arith), omega arith, omega arith)
+loop-again c = (raised-more _ (c .before .before .loop .inv .0) (omega arith) (omega arith), omega arith)
 
 same-length : tie.Need-same-length Inv-loop μ-loop
 same-length c = c .before .loop .inv .0 .same
 
 returns : tie.Need-returns Inv-loop μ-loop
-returns c = raised-rows (c .before .loop .inv .0) (omega arith)
+returns c = raised-rows {i = 0} (c .before .loop .inv .0) (omega arith)
 
 pub move-up-spec : {M : Type 1} → statement M
 move-up-spec =
@@ -60,15 +57,14 @@ move-up-spec =
     (tie.spec
     Inv-loop
     μ-loop
-    mul-from
     mul-w
     loop-holds
     sub-next
-    mul-out
-    slice-read-out
-    add-out
-    mul-out-2
-    slice-write-out
+    mul-part
+    slice-read-part
+    add-part
+    mul-part-2
+    slice-write-part
     loop-less
     loop-again
     same-length

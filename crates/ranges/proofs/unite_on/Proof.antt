@@ -1,0 +1,140 @@
+use Rattle.tables.proofs.Uniting.{less-left, rest-left, rest-right, holds-other}
+use Rattle.ranges.proofs.Uniting.{first-at, first-fills, first-moves, united-first}
+use Rattle.tables.proofs.Merging.{union-comm}
+use Rattle.tables.specs.Inner.Unite.{United}
+use Rattle.ranges.specs.Inner.{rowAt}
+use mathlib.Core.Path.{sym, ap}
+use Rattle.ranges.proofs.Flat.{ruled-links}
+use lib.ListN.{length, length-set}
+use native.Mathlib.Omega.{arith}
+use mathlib.Core.Path.{_≡_, _∙_, refl}
+use Prim.Native.Nat.{ℕ, _<_, _≤_, _-_, _+_, _*_}
+use borrow.Author.Needs.{needs}
+use Rattle.ranges.proofs.unite_on.Statement.{statement}
+use Rattle.ranges.proofs.unite_on.Tie as tie
+use Rattle.ranges.proofs.unite_on.Reads as reads
+use Rattle.ranges.proofs.unite_on.Lts as lts
+use Rattle.ranges.proofs.end_at.Reads as end-at-reads
+use Rattle.ranges.proofs.first.Reads as first-reads
+use Rattle.ranges.proofs.further.Reads as further-reads
+use Rattle.ranges.proofs.waited.Reads as waited-reads
+use Rattle.ranges.proofs.join.Reads as join-reads
+use Rattle.ranges.proofs.lower.Reads as lower-reads
+use Rattle.ranges.proofs.passed.Reads as passed-reads
+use Rattle.ranges.proofs.rest.Reads as rest-reads
+use Rattle.ranges.proofs.start_at.Reads as start-at-reads
+
+abbrev Inv-loop : tie.InvT-loop
+Inv-loop a n i0 b m j0 out₀ most k0 e0 i₀ j₀ k₀ e₀ out i j k e = (length out ≡ length out₀) × United 4294967296 (rowAt a) n i (rowAt b) m j most (rowAt out) k e
+
+abbrev μ-loop : tie.MeasureT-loop
+μ-loop a n i0 b m j0 out₀ most k0 e0 i₀ j₀ k₀ e₀ out i j k e = (n + m) - (i + j)
+
+loop-holds : tie.Need-loop-holds Inv-loop μ-loop
+loop-holds c = (refl, c .before .before .before .pre .1 .1 .1)
+
+rest-requires : tie.Need-rest-requires Inv-loop μ-loop
+rest-requires c κs = let l = c .before .before .before in let s = l .before .before .before .before in (s .pre .0, (s .pre .1 .0, (omega (arith, l .loop .inv .0, s .pre .1 .1 .0), rest-right (c .before .if1 .taken) (l .loop .inv .1))))
+
+same-length : tie.Need-same-length Inv-loop μ-loop
+same-length c = search needs
+
+returns : tie.Need-returns Inv-loop μ-loop
+returns c = search needs
+
+start-at-requires : tie.Need-start-at-requires Inv-loop μ-loop
+start-at-requires c κs = search needs
+
+start-at-requires-2 : tie.Need-start-at-requires-2 Inv-loop μ-loop
+start-at-requires-2 c κs = search needs
+
+end-at-requires : tie.Need-end-at-requires Inv-loop μ-loop
+end-at-requires c κs = search needs
+
+end-at-requires-2 : tie.Need-end-at-requires-2 Inv-loop μ-loop
+end-at-requires-2 c κs = search needs
+
+lower-requires : tie.Need-lower-requires Inv-loop μ-loop
+lower-requires c κs = search needs
+
+passed-requires : tie.Need-passed-requires Inv-loop μ-loop
+passed-requires c κs = search needs
+
+first-requires : tie.Need-first-requires Inv-loop μ-loop
+first-requires c κs = search needs
+
+waited-requires : tie.Need-waited-requires Inv-loop μ-loop
+waited-requires c κs = search needs
+
+join-requires : tie.Need-join-requires Inv-loop μ-loop
+join-requires c κs =
+    let h = c .before in
+    let l = h .before .before .before .before .before .before .before .before .before .before in
+    let s = l .before .before .before .before in
+    let i = h .before .before .before .before .before .before .before .before .before .loop-test .taken in
+    let j = h .before .before .before .before .before .before .before .before .if1 .left in (
+      omega (arith, l .loop .inv .0, s .pre .1 .1 .0),
+      (
+        l .loop .inv .1 .last,
+        (
+          omega (arith, l .loop .inv .1 .few, s .pre .0 .few, s .pre .1 .0 .few, i, j),
+          (
+            l .loop .inv .1 .most,
+            first-fills (s .pre .0 .ruled _ i .filled) (s .pre .1 .0 .ruled _ j .filled) (first-at (h .before .before .before .before .before .before .before .start-at .ensures) (h .before .before .before .before .before .before .start-at2 .ensures) (h .before .before .before .before .before .end-at .ensures) (h .before .before .before .before .end-at2 .ensures) (h .before .before .before .lower .ensures) (h .before .before .first .ensures) (h .before .passed .ensures) (h .waited .ensures)),
+          ),
+        ),
+      ),
+    )
+
+further-requires : tie.Need-further-requires Inv-loop μ-loop
+further-requires c κs = search needs
+
+loop-less : tie.Need-loop-less Inv-loop μ-loop
+loop-less c =
+    let h = c .before .before .before .before .before in
+    let l = h .before .before .before .before .before .before .before .before .before .before in
+    less-left _ _ _ _ _ _ (l .loop .inv .1 .one .within) (l .loop .inv .1 .two .within) (h .before .before .before .before .before .before .before .before .before .loop-test .taken) (first-moves (first-at (h .before .before .before .before .before .before .before .start-at .ensures) (h .before .before .before .before .before .before .start-at2 .ensures) (h .before .before .before .before .before .end-at .ensures) (h .before .before .before .before .end-at2 .ensures) (h .before .before .before .lower .ensures) (h .before .before .first .ensures) (h .before .passed .ensures) (h .waited .ensures)))
+
+loop-again : tie.Need-loop-again Inv-loop μ-loop
+loop-again c =
+    let h = c .before .before .before .before .before in
+    let l = h .before .before .before .before .before .before .before .before .before .before in
+    let s = l .before .before .before .before in (
+      c .before .before .before .join .kept .0 ∙ l .loop .inv .0,
+      united-first _ _ _ _ _ _ (λ _. refl) (λ _. refl) (ruled-links (s .pre .0)) (ruled-links (s .pre .1 .0)) _ _ _ _ _ _ _ _ _ _ _ _ (h .before .before .before .before .before .before .before .before .before .loop-test .taken) (h .before .before .before .before .before .before .before .before .if1 .left) (first-at (h .before .before .before .before .before .before .before .start-at .ensures) (h .before .before .before .before .before .before .start-at2 .ensures) (h .before .before .before .before .before .end-at .ensures) (h .before .before .before .before .end-at2 .ensures) (h .before .before .before .lower .ensures) (h .before .before .first .ensures) (h .before .passed .ensures) (h .waited .ensures)) (l .loop .inv .1) (c .before .before .before .join .ensures) (omega (arith, h .before .before .first .ok)) (c .further .ensures),
+    )
+
+rest-requires-2 : tie.Need-rest-requires-2 Inv-loop μ-loop
+rest-requires-2 c κs = let l = c .before .before in let s = l .before .before .before .before in (s .pre .1 .0, (s .pre .0, (omega (arith, l .loop .inv .0, s .pre .1 .1 .0), rest-left (c .before .loop-test .left) (l .loop .inv .1))))
+
+same-length-2 : tie.Need-same-length-2 Inv-loop μ-loop
+same-length-2 c = search needs
+
+returns-2 : tie.Need-returns-2 Inv-loop μ-loop
+returns-2 c = holds-other (union-comm _ _) (c .before .before .rest2 .ensures)
+
+pub unite-on-spec : {M : Type 1} → statement M
+unite-on-spec =
+    tie.close
+    (tie.spec
+    Inv-loop
+    μ-loop
+    loop-holds
+    rest-requires
+    same-length
+    returns
+    start-at-requires
+    start-at-requires-2
+    end-at-requires
+    end-at-requires-2
+    lower-requires
+    first-requires
+    passed-requires
+    waited-requires
+    join-requires
+    further-requires
+    loop-less
+    loop-again
+    rest-requires-2
+    same-length-2
+    returns-2)
