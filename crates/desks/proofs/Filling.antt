@@ -4,8 +4,9 @@ use mathlib.Core.List.{List, [], _∷_, _++_, map}
 use Prim.Native.Nat.{ℕ, _≤_}
 use native.Mathlib.Omega.{arith}
 use lib.ListN.{length, length-append, length-replicate, length-map}
+use Rattle.tables.specs.Answers.{padded}
 use Rattle.ids.specs.Rows.{Row, Joined}
-use Rattle.ids.specs.Tables.{Slices, Table, rows, rowsOf, most, padded, filled}
+use Rattle.ids.specs.Tables.{Slices, Table, rows, rowsOf, most, filled}
 
 -- whatever stands behind the rows
 front : (t : List Row) (xs ys zs : List ℕ) → rowsOf (length t) (map (λ (r : Row). r .client) t ++ xs) (map (λ (r : Row). r .start) t ++ ys) (map (λ (r : Row). r .end) t ++ zs) ≡ t

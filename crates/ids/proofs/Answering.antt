@@ -2,14 +2,14 @@
 use mathlib.Core.Logic.{⊎-elim}
 use mathlib.Core.Path.{_≡_, refl, ap, sym, subst, _∙_}
 use mathlib.Core.Bool.{Bool, true, false}
-use mathlib.Core.List.{List, [], _∷_, map}
+use mathlib.Core.List.{List, [], map}
 use Prim.Native.Nat.{ℕ, _≤_, _<_}
 use native.Mathlib.Omega.{arith}
 use lib.Dec.{ltb}
 use lib.ListN.{length, length-map}
 use borrow.Author.Tests.{lt-ltb, le-ltb, ltb-true, ltb-false}
 use Rattle.varint.specs.declared.Refusal.the-variants.{Full, Malformed}
-use Rattle.tables.specs.Answers.{Answer, answer, Gives, done, full, malformed, saidMade}
+use Rattle.tables.specs.Answers.{answer, padded, done, full, malformed}
 use Rattle.tables.specs.Inner.Rows as inner
 use Rattle.tables.specs.Inner.Sweep.{Holds}
 use Rattle.tables.specs.declared.Made.{Made}
@@ -18,7 +18,7 @@ use Rattle.tables.proofs.Joining.{split}
 use Rattle.tables.proofs.Sets.{Means}
 use Rattle.ids.specs.Rows.{Row, TableOf}
 use Rattle.ids.specs.Rows as ids
-use Rattle.ids.specs.Tables.{Slices, three, held, most, rowsOf, padded, filled, Table, Writes, Captured}
+use Rattle.ids.specs.Tables.{Slices, three, held, most, rowsOf, filled, Table, Writes, Captured}
 use Rattle.ids.specs.Inner.{idRow, idRows, Checked, Both, Finished, Picked}
 use Rattle.ids.proofs.Numbering.{Fit, fit, length-rows, Narrow}
 use Rattle.ids.proofs.Reading.{gather, gather-rows, combined-right}

@@ -1,22 +1,22 @@
 -- The answers of the questions: membership, emptiness, how many clients. Assumes nothing.
 use mathlib.Core.Path.{_≡_, refl, ap, sym, subst, subst₂, _∙_}
 use mathlib.Core.Logic.{_⊎_, inl, inr, _↔_, ⊎-elim}
-use mathlib.Core.Bool.{Bool, true, false}
+use mathlib.Core.Bool.{Bool, false}
 use mathlib.Core.List.{List, [], _∷_}
-use Prim.Native.Nat.{ℕ, zero, suc, _+_, _-_, _≤_, _<_}
+use Prim.Native.Nat.{ℕ, suc, _+_, _-_, _≤_, _<_}
 use native.Mathlib.Omega.{arith}
 use native.Mathlib.Decide.{ℕ-discrete}
 use lib.ListN.{length, getD}
 use Rattle.varint.specs.declared.Refusal.the-variants.{Malformed}
-use Rattle.tables.specs.Answers.{Answer, Tells, says, refuses, Says, saidTold, saidCounted}
+use Rattle.tables.specs.Answers.{Tells, says, refuses, Says, saidTold, saidCounted}
 use Rattle.tables.specs.Inner.Rows.{at, span}
 use Rattle.tables.specs.declared.Told.the-variants as told
 use Rattle.tables.specs.declared.Counted.the-variants as counted
 use Rattle.tables.proofs.Saying.{says-yes, says-no}
 use Rattle.ids.specs.Rows.{Row, Holds}
-use Rattle.ids.specs.Tables.{Held, held, Table, rows, rowsOf, Has, Among, Rising, Clients}
-use Rattle.ids.specs.Inner.{numberOf, idRow, idRows, IdTable, Checked, Fresh}
-use Rattle.ids.proofs.Numbering.{idAt, listed, Fit, fit, rows-listed, length-rows, Narrow, rises}
+use Rattle.ids.specs.Tables.{rowsOf, Has, Among, Rising, Clients}
+use Rattle.ids.specs.Inner.{numberOf, idRow, IdTable, Fresh}
+use Rattle.ids.proofs.Numbering.{idAt, listed, fit, rows-listed, length-rows, Narrow, rises}
 use Rattle.ids.proofs.Reading.{holds-placed}
 
 pub told-malformed : {ok : Type 0} {right : Bool → Type 0} → (ok → ⊥) → Tells ok right false (saidTold (told.Refused Malformed))

@@ -1,5 +1,5 @@
 -- Each public routine's promise determines its answer and every element of the lent memory: any two results that satisfy it coincide. Assumes nothing.
-use mathlib.Core.Path.{_≡_, refl, ap, ap₂, sym, subst, _∙_}
+use mathlib.Core.Path.{_≡_, refl, ap, ap₂, sym, _∙_}
 use mathlib.Core.Logic.{_⊎_, inl, inr, _↔_, ⊎-elim}
 use mathlib.Core.List.{List, [], _∷_}
 use Prim.Native.Nat.{ℕ, _≤_, _<_}
@@ -8,12 +8,11 @@ use lib.ListN.{length}
 use Rattle.tables.specs.declared.Made.{Made}
 use Rattle.tables.specs.declared.Told.{Told}
 use Rattle.tables.specs.declared.Counted.{Counted}
-use Rattle.tables.proofs.Joining.{meet}
 use Rattle.tables.proofs.Giving.{One, gives-determined, tells-determined}
 use Rattle.tables.proofs.Saying.{says-one}
 use Rattle.tables.proofs.Viewing.{made-same, told-same, counted-same}
 use Rattle.ids.specs.Rows.{Row, TableOf}
-use Rattle.ids.specs.Tables.{Slices, Held, rows, Table, Writes, Captured, Contains, Empty, Among, Rising, Clients, Len}
+use Rattle.ids.specs.Tables.{Slices, Held, rows, Writes, Captured, Contains, Empty, Among, Rising, Clients, Len}
 use Rattle.ids.proofs.Unique.{table-one}
 
 -- ## Routines that write a table

@@ -1,13 +1,13 @@
 -- An insert is a merge with a table of one row, and an empty range a capture. Assumes nothing.
-use mathlib.Core.Path.{_≡_, refl, sym, subst}
-use mathlib.Core.Logic.{_⊎_, inl, inr, _↔_, ⊎-elim}
+use mathlib.Core.Path.{sym, subst}
+use mathlib.Core.Logic.{_⊎_, inl, inr, ⊎-elim}
 use mathlib.Core.List.{List, [], _∷_}
 use Prim.Native.Nat.{ℕ, _≤_, _<_}
 use native.Mathlib.Omega.{arith}
 use lib.Dec.{lit≤}
 use Rattle.tables.specs.Answers.{Answer, Gives, done, full, malformed}
 use Rattle.tables.specs.declared.Made.{Made}
-use Rattle.ids.specs.Rows.{Row, Within, Holds, Joined, TableOf}
+use Rattle.ids.specs.Rows.{Row, Within, Holds, TableOf}
 use Rattle.ids.specs.Tables.{Slices, Held, Table, held, rows, Merged, Captured, Inserted}
 
 -- the same answer to another question

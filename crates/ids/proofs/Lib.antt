@@ -10,5 +10,7 @@ pub mod Inserting
 pub mod Splicing
 pub mod Asking
 pub mod Unique
+pub mod Same
 pub mod Determined
+pub mod Below
 pub mod Refuted

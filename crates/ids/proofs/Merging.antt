@@ -14,7 +14,7 @@ use Rattle.tables.proofs.Taking.{united-take}
 use Rattle.ids.specs.declared.Entry.{Entry}
 use Rattle.ids.specs.declared.Taken.{Taken}
 use Rattle.ids.specs.declared.Added.{Added}
-use Rattle.ids.specs.Inner.{numberOf, idRow, idRows, IdTable, beyond, Picked, entryAt, taken, startOf, Earlier, first, second, Takes, left, right, Open, Joins, Merging}
+use Rattle.ids.specs.Inner.{numberOf, idRow, idRows, IdTable, beyond, Picked, entryAt, taken, startOf, Earlier, first, second, Takes, left, right, Joins, Merging}
 use Rattle.ids.proofs.Numbering.{Narrow, Wide, links, rises}
 
 pub merging-none : (room : ℕ) (ac aS ae : List ℕ) (n : ℕ) (bc bs be : List ℕ) (m : ℕ) (oc os oe : List ℕ) → Merging room ac aS ae n 0 bc bs be m 0 oc os oe 0 0 0

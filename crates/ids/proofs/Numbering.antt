@@ -3,20 +3,19 @@ use mathlib.Core.Logic.{_⊎_, inl, inr, ⊎-elim}
 use mathlib.Core.Path.{_≡_, refl, ap, ap₂, sym, subst, _∙_}
 use mathlib.Core.Bool.{Bool, true, false, _&&_, true≢false, false≢true}
 use mathlib.Core.List.{List, [], _∷_, _++_, map}
-use Prim.Native.Nat.{ℕ, zero, suc, _+_, _-_, _*_, _/_, _%_, _^_, _≤_, _<_, min}
+use Prim.Native.Nat.{ℕ, zero, suc, _+_, _-_, _≤_, _<_}
 use native.Mathlib.Omega.{arith}
 use native.Mathlib.Numerals.{add-one}
 use lib.ListN.{length, getD, take, drop, replicate, length-map}
 use mir.Syntax.{w32, w64}
 use mir.Val.{Fits}
 use lib.Seq.{drop-cons}
-use Rattle.tables.specs.Answers.{Says}
+use Rattle.tables.specs.Answers.{padded, Says}
 use Rattle.tables.specs.Inner.Rows as inner
-use Rattle.tables.specs.Inner.Rows.{span, at}
-use Rattle.tables.proofs.Joining.{split, at-here, at-past, at-before}
+use Rattle.tables.proofs.Joining.{split}
 use Rattle.tables.proofs.Spanning.{Links, spanned}
-use Rattle.ids.specs.Rows.{Row, row, Before, First, Joined}
-use Rattle.ids.specs.Tables.{Slices, three, held, most, room, rowsOf, padded, filled, Table}
+use Rattle.ids.specs.Rows.{Row, row, Before, Joined}
+use Rattle.ids.specs.Tables.{three, held, most, room, rowsOf, filled, Table}
 use Rattle.ids.specs.Inner.{numberOf, idRow, idRows, NoneEmpty, Apart, IdTable, Checked}
 
 -- ## Rows by their index

@@ -2,16 +2,15 @@
 use mathlib.Core.Logic.{⊎-elim}
 use mathlib.Core.Path.{_≡_, refl, ap, ap₂, sym, subst, _∙_}
 use mathlib.Core.List.{List}
-use Prim.Native.Nat.{ℕ, _+_, _-_, _*_, _≤_, _<_, max}
+use Prim.Native.Nat.{ℕ, _+_, _-_, _≤_, _<_}
 use native.Mathlib.Omega.{arith}
 use lib.ListN.{length, getD, set}
 use lib.Seq.{getD-set-same, getD-set-other}
 use Rattle.tables.specs.Inner.Rows as inner
 use Rattle.tables.specs.Inner.Unite.{Counted, Starts, Ends, Last, Adds}
 use Rattle.tables.proofs.Joining.{split}
-use Rattle.tables.proofs.Pushing.{piece, row-is}
+use Rattle.tables.proofs.Pushing.{row-is}
 use Rattle.tables.proofs.Uniting.{adds, counted-some}
-use Rattle.ids.specs.declared.Added.{Added}
 use Rattle.ids.specs.Inner.{numberOf, idRow, Stored, Further, Open, Joins}
 
 pub stored : (room : ℕ) (l : List ℕ) (k v : ℕ) → k < length l → Stored room l k v (set l k v)

@@ -1,9 +1,9 @@
 -- Joined rows of places read back as id rows: no row crosses from one client to the next. So the combination of two id tables is the one id
 -- table of the union, the difference or the intersection of their ids. Assumes nothing.
 use mathlib.Core.Logic.{_⊎_, inl, inr, ⊎-elim, _↔_}
-use mathlib.Core.Path.{_≡_, refl, ap, ap₂, sym, subst, _∙_}
+use mathlib.Core.Path.{_≡_, refl, ap₂, sym, subst, _∙_}
 use mathlib.Core.List.{List, [], _∷_, map}
-use Prim.Native.Nat.{ℕ, zero, suc, _+_, _-_, _*_, _/_, _%_, _^_, _≤_, _<_, max}
+use Prim.Native.Nat.{ℕ, zero, suc, _+_, _-_, _*_, _/_, _%_, _≤_, _<_}
 use native.Mathlib.Omega.{arith}
 use Rattle.tables.specs.Inner.Rows as inner
 use Rattle.tables.specs.Inner.Rows.{span, at, JoinedFrom, combined}
@@ -11,7 +11,7 @@ use Rattle.tables.proofs.Joining.{split, at-here, at-past, at-before, at-below}
 use Rattle.tables.proofs.Meaning.{combined-joined, combined-at}
 use Rattle.tables.proofs.Closing.{Units, span-unit}
 use Rattle.tables.proofs.Sets.{Means, combined-units}
-use Rattle.ids.specs.Rows.{Row, row, Within, Holds, Before, First, Joined, TableOf}
+use Rattle.ids.specs.Rows.{Row, row, Holds, Before, Joined, TableOf}
 use Rattle.ids.specs.Tables.{rowsOf}
 use Rattle.ids.specs.Inner.{numberOf, idRow, idRows, IdTable}
 use Rattle.ids.proofs.Numbering.{idAt, listed, fit, Fit, rows-listed, Narrow, joined}

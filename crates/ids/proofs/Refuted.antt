@@ -1,17 +1,18 @@
 -- Wrong programs that the promises exclude: document 01, "How tight the statements are" and "Errors that tempt". Assumes nothing.
 use mathlib.Core.Logic.{_⊎_, inl, inr, ⊎-elim}
-use mathlib.Core.Path.{_≡_, refl, ap, sym, _∙_}
+use mathlib.Core.Path.{_≡_, refl, ap, subst}
 use mathlib.Core.List.{List, [], _∷_}
-use Prim.Native.Nat.{ℕ, zero, suc, _≤_, _<_}
+use Prim.Native.Nat.{ℕ, zero, suc, _-_, _<_}
 use native.Mathlib.Omega.{arith}
-use lib.ListN.{length}
+use lib.ListN.{length, getD, replicate}
 use lib.Dec.{lit≤}
 use Rattle.varint.specs.declared.Refusal.the-variants.{Full}
-use Rattle.tables.specs.Answers.{Answer, Gives, done, full, malformed}
+use Rattle.tables.specs.Answers.{Answer, padded, Gives, done}
 use Rattle.tables.specs.declared.Made.{Made}
 use Rattle.tables.specs.declared.Made.the-variants as made
+use Rattle.tables.proofs.Below.{refusal-leaves}
 use Rattle.ids.specs.Rows.{Row, row}
-use Rattle.ids.specs.Tables.{Slices, Held, three, held, rows, filled, Merged, Diffed, Intersected, Inserted, Captured}
+use Rattle.ids.specs.Tables.{Slices, Held, three, held, rows, most, filled, Merged, Diffed, Intersected, Inserted, Captured}
 use Rattle.ids.proofs.Determined.{writes-determined, capture-determined}
 
 abbrev nothing : Held
@@ -119,3 +120,28 @@ other-client =
 
 pub joined-across : (out : Slices) → Inserted some (row 8 1 2) two out (made.Rows 1) → ⊥
 joined-across out h = let e : made.Rows 1 ≡ made.Rows 2 = writes-determined two h other-client .0 in let z : _≡_ {A = ℕ} 0 1 = cc in omega arith
+
+-- ## What a refusal leaves: "On refusal every element is zero and the count is 0."
+
+-- a refusal beside which stands a count, or after which an element of one of the three slices, of whatever lengths, is not zero
+abbrev Left : List ℕ → Type 0
+Left l = (i : ℕ) × (0 < getD l i 0)
+
+abbrev Leaves : Slices → Answer ℕ → Type 0
+Leaves out a = (0 < a .no) × ((0 < a .value) ⊎ (Left (out .clients) ⊎ (Left (out .starts) ⊎ Left (out .ends))))
+
+zeros : (n i : ℕ) → 0 < getD (replicate n 0) i 0 → ⊥
+zeros zero i h = omega arith
+zeros (suc n) zero h = omega arith
+zeros (suc n) (suc i) h = zeros n i h
+
+left-none : (n : ℕ) {l : List ℕ} → l ≡ padded n [] → Left l → ⊥
+left-none n e (i, h) = zeros (n - 0) i (subst (λ (l : List ℕ). 0 < getD l i 0) e h)
+
+pub leaves-none : {ok : Type 0} {right : List Row → Type 0} (o : Slices) {out : Slices} {a : Answer ℕ} → Gives ok right (most o) (λ t. filled t o) out a → Leaves out a → ⊥
+leaves-none o {out} {a} g (w, l) = ⊎-elim
+    (λ h. omega (arith, e .0))
+    (⊎-elim (left-none (length (o .clients)) (ap (λ (s : Slices). s .clients) (e .1))) (⊎-elim (left-none (length (o .starts)) (ap (λ (s : Slices). s .starts) (e .1))) (left-none (length (o .ends)) (ap (λ (s : Slices). s .ends) (e .1))))) l
+  where
+    e : (a .value ≡ 0) × (out ≡ filled [] o)
+    e = refusal-leaves (λ z. omega arith) g

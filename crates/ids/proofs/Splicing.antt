@@ -1,49 +1,28 @@
 -- An insert finds its place, and lays one row there in the place of those that it meets. Assumes nothing.
-use mathlib.Core.Logic.{_⊎_, inl, inr, ⊎-elim}
+use mathlib.Core.Logic.{_⊎_, ⊎-elim}
 use mathlib.Core.Path.{_≡_, refl, ap, ap₂, sym, subst, _∙_}
-use mathlib.Core.Bool.{Bool, true}
-use mathlib.Core.List.{List, [], _∷_, _++_, append-nil}
-use Prim.Native.Nat.{ℕ, zero, suc, _+_, _-_, _*_, _≤_, _<_, max, min}
+use mathlib.Core.Bool.{true}
+use mathlib.Core.List.{List, [], _∷_, _++_}
+use Prim.Native.Nat.{ℕ, zero, suc, _+_, _-_, _≤_, _<_, max, min}
 use native.Mathlib.Omega.{arith}
 use lib.Dec.{lit≤}
-use lib.ListN.{length, getD, set, length-set}
+use lib.ListN.{length, getD, set}
 use lib.Seq.{getD-set-same, getD-set-other}
-use Rattle.tables.specs.Answers.{Says}
 use Rattle.tables.specs.Inner.Rows as inner
 use Rattle.tables.specs.Inner.Rows.{span, combined}
 use Rattle.tables.specs.Inner.Sweep.{Holds}
-use Rattle.tables.specs.Inner.Edit.{Plain, range, Parted, starts, ends, Starting, Ending, Moved, Stands}
+use Rattle.tables.specs.Inner.Edit.{Plain, Parted, starts, ends, Starting, Ending}
 use Rattle.tables.proofs.Joining.{split}
+use Rattle.tables.proofs.Copying.{Copied}
 use Rattle.tables.proofs.Spanning.{length-span, span-same}
 use Rattle.tables.proofs.Pushing.{piece, row-is}
 use Rattle.tables.proofs.Inserting.{inserted, range-one}
 use Rattle.tables.proofs.Placing.{laid-holds, laid-over}
 use Rattle.tables.proofs.Saying.{says-yes}
-use Rattle.ids.specs.Inner.{numberOf, idRow, idRows, IdTable, Both, marks, Leads, Trails, Shifted, Spliced}
-use Rattle.ids.specs.Tables.{held, Table}
+use Rattle.ids.specs.Inner.{numberOf, idRow, idRows, IdTable, Both, Leads, Trails, Shifted, Spliced}
 use Rattle.ids.proofs.Numbering.{Narrow, table-up}
 
 -- ## Elements copied one by one
-
-pub record Copied (src : List ℕ) (from : ℕ) (out₀ : List ℕ) (to i : ℕ) (out : List ℕ) : Type 0 where
-  pub same : length out ≡ length out₀
-  pub before2 : (x : ℕ) → x < to → getD out x 0 ≡ getD out₀ x 0
-  pub there : (x : ℕ) → x < i → getD out (to + x) 0 ≡ getD src (from + x) 0
-
-pub copied-none : (src : List ℕ) (from : ℕ) (out : List ℕ) (to : ℕ) → Copied src from out to 0 out
-copied-none src from out to = record { same = refl; before2 = λ x h. refl; there = λ x h. absurd (omega arith) }
-
-pub copied-more : {src out₀ out : List ℕ} {from to i : ℕ} → Copied src from out₀ to i out → to + i < length out₀ → Copied src from out₀ to (i + 1) (set out (to + i) (getD src (from + i) 0))
-copied-more {src} {out₀} {out} {from} {to} {i} c h =
-    record {
-      same = simp length-set (c .same);
-      before2 = λ x l. getD-set-other out (to + i) x _ 0 (omega arith) ∙ c .before2 x l;
-      there = λ x l. ⊎-elim
-          (λ m. getD-set-other out (to + i) (to + x) _ 0 (omega arith) ∙ c .there x m)
-          (λ m. ap (λ (y : ℕ). getD (set out (to + i) (getD src (from + i) 0)) (to + y) 0) (let z : x ≡ i = omega arith in z)
-          ∙ (getD-set-same out (to + i) _ 0 (omega (arith, c .same)) ∙ ap (λ (y : ℕ). getD src (from + y) 0) (let z : i ≡ x = omega arith in z)))
-          (split x i);
-    }
 
 pub copied-all : {src out₀ out : List ℕ} {a b to i : ℕ} → Copied src a out₀ to i out → b - a ≤ i → Shifted src a b out₀ to out
 copied-all c h = record { below = c .before2; there = λ x l. c .there x (omega arith) }

@@ -1,4 +1,5 @@
--- There is one joined table of a set of ids, whatever its clients and clocks. Assumes nothing.
+-- There is one joined table of a set of ids, whatever its clients and clocks. `unique` of tables is over places, and a pair of numbers without a bound
+-- has no place that keeps clients apart, so it is shown on the pairs themselves. Assumes nothing.
 use mathlib.Core.Path.{_≡_, refl, sym, ap₂}
 use mathlib.Core.Logic.{_⊎_, inl, inr, _↔_, ⊎-elim}
 use mathlib.Core.List.{List, [], _∷_}

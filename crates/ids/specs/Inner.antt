@@ -4,9 +4,8 @@ use mathlib.Core.Path.{_≡_}
 use mathlib.Core.Bool.{Bool, true, false}
 use mathlib.Core.List.{List, []}
 use Prim.Native.Nat.{ℕ, suc, _+_, _-_, _*_, _≤_, _<_, max, min}
-use lib.ListN.{length, getD}
+use lib.ListN.{getD}
 use Rattle.tables.specs.Answers.{Says}
-use Rattle.tables.specs.Limits.{rowLimit}
 use Rattle.tables.specs.Inner.Rows as inner
 use Rattle.tables.specs.declared.Made.{Made}
 use Rattle.tables.specs.declared.Made.the-variants as made
@@ -16,7 +15,6 @@ use Rattle.ids.specs.declared.Entry.{Entry}
 use Rattle.ids.specs.declared.Taken.{Taken}
 use Rattle.ids.specs.declared.Added.{Added}
 use Rattle.ids.specs.declared.Shared.{Shared}
-use Rattle.ids.specs.declared.Spot.{Spot}
 use Rattle.ids.specs.Tables.{Slices, three, held, most, rowsOf, filled, Table}
 
 -- the place of an id

@@ -1,12 +1,12 @@
 -- Id tables in lent slices, and what each routine promises. Document 01, "Tables", "Range operations" and "What a desk has received".
 use mathlib.Core.Path.{_≡_}
 use mathlib.Core.Logic.{_⊎_, _↔_}
-use mathlib.Core.List.{List, [], _∷_, _++_, map}
-use mathlib.Core.Bool.{Bool, true, false}
-use Prim.Native.Nat.{ℕ, zero, suc, _-_, _≤_, _<_, min}
-use lib.ListN.{length, replicate}
+use mathlib.Core.List.{List, [], _∷_, map}
+use mathlib.Core.Bool.{false}
+use Prim.Native.Nat.{ℕ, zero, suc, _≤_, _<_, min}
+use lib.ListN.{length}
 use Rattle.tables.specs.Limits.{rowLimit}
-use Rattle.tables.specs.Answers.{Answer, Gives, Tells, Says, saidMade, saidTold, saidCounted}
+use Rattle.tables.specs.Answers.{padded, Gives, Tells, Says, saidMade, saidTold, saidCounted}
 use Rattle.tables.specs.declared.Made.{Made}
 use Rattle.tables.specs.declared.Told.{Told}
 use Rattle.tables.specs.declared.Counted.{Counted}
@@ -51,10 +51,6 @@ most o = min rowLimit (room o)
 -- well formed
 abbrev pub Table : Held → Type 0
 Table h = (h .count ≤ most (h .slices)) × Joined (rows h)
-
--- a list in front, and zeros behind it
-abbrev pub padded : ℕ → List ℕ → List ℕ
-padded n l = l ++ replicate (n - length l) 0
 
 -- "the new table fills the front of the output and every later element of each output slice is zero"
 abbrev pub filled : List Row → Slices → Slices

@@ -2,7 +2,7 @@
 ghost use mathlib.Core.Path.{_≡_};
 ghost use mathlib.Core.List.{[], _∷_};
 ghost use Prim.Native.Nat.{ℕ, _+_, _-_, _*_, _≤_, _<_, min};
-ghost use lib.ListN.{length};
+ghost use lib.ListN.{length, getD};
 ghost use Rattle.tables.specs.Answers.{Says};
 ghost use Rattle.tables.specs.Limits.{rowLimit};
 ghost use Rattle.tables.specs.Inner.Rows.{at, span, combined, union, difference, intersection};
@@ -14,7 +14,7 @@ ghost use Rattle.ids.specs.Rows.{row};
 ghost use Rattle.ids.specs.Tables.{three, held, room, most, rowsOf, filled, Captured, Merged, Diffed, Intersected, Inserted, Contains, Empty, Clients, Len};
 ghost use Rattle.ids.specs.Inner.{numberOf, idRow, NoneEmpty, Apart, idRows, IdTable, Checked, Both, Finished, Picked, Stored, Further, entryAt, startOf, endOf, Earlier, Takes, Open, Joins, final, Shares, Puts, Fresh, marks, Leads, Trails, Shifted, Spliced};
 
-// Whether the id (c, x) comes before the id (d, y). Most are of one client, so that the jump is foreseen.
+// Whether the id (c, x) comes before the id (d, y).
 fn precedes(c: u64, x: u32, d: u64, y: u32) -> bool
     ensures { λ r. ⌜ Says (numberOf c x < numberOf d y) r ⌝ }
 {
@@ -51,6 +51,20 @@ fn none_empty(starts: &[u32], ends: &[u32], n: usize) -> bool
     ok
 }
 
+// Whether row `next` starts past the end of row `i`. Most are of one client: the jump is foreseen, and clocks are read only behind it.
+fn follows(clients: &[u64], starts: &[u32], ends: &[u32], i: usize, next: usize) -> bool
+    requires { ⌜ (i < length (now clients)) × (next < length (now clients)) × (i < length (now ends)) × (next < length (now starts)) ⌝ }
+    requires { ⌜ (getD (now ends) i 0 < 4294967296) × (getD (now starts) next 0 < 4294967296) ⌝ }
+    ensures { λ r. ⌜ Says (numberOf (getD (now (clients .entry)) i 0) (getD (now (ends .entry)) i 0) < numberOf (getD (now (clients .entry)) next 0) (getD (now (starts .entry)) next 0)) r ⌝ }
+{
+    let c = clients[i];
+    let d = clients[next];
+    if c == d {
+        return ends[i] < starts[next];
+    }
+    c < d
+}
+
 // Whether each of the first `n` rows starts past the end of the row before it.
 fn apart(clients: &[u64], starts: &[u32], ends: &[u32], n: usize) -> bool
     requires { ⌜ (n ≤ length (now clients)) × (n ≤ length (now starts)) × (n ≤ length (now ends)) ⌝ }
@@ -60,13 +74,13 @@ fn apart(clients: &[u64], starts: &[u32], ends: &[u32], n: usize) -> bool
     let mut i: usize = 0;
     while i + 1 < n {
         let next = i + 1;
-        ok = ok & precedes(clients[i], ends[i], clients[next], starts[next]);
+        ok = ok & follows(clients, starts, ends, i, next);
         i = next;
     }
     ok
 }
 
-// Whether the slices hold a table. No early exit: the loops become SIMD.
+// Whether the slices hold a table. No early exit.
 fn well_formed(clients: &[u64], starts: &[u32], ends: &[u32], count: usize) -> bool
     ensures { λ r. ⌜ Checked (now (clients .entry)) (now (starts .entry)) (now (ends .entry)) count r ⌝ }
 {
@@ -821,7 +835,7 @@ pub fn intersect(
 }
 
 // How many of `n` rows have a mark, start or end, before (c, x), where the first `i` do: each look halves the rows still possible.
-fn below(clients: &[u64], clocks: &[u32], n: usize, i: usize, c: u64, x: u64) -> usize
+fn count_below(clients: &[u64], clocks: &[u32], n: usize, i: usize, c: u64, x: u64) -> usize
     requires { ⌜ (n ≤ length (now clients)) × (n ≤ length (now clocks)) × (x ≤ 4294967296) ⌝ }
     requires { ⌜ Parted (marks (now clients) (now clocks)) n (numberOf c x) i n ⌝ }
     ensures { λ r. ⌜ Parted (marks (now (clients .entry)) (now (clocks .entry))) n (numberOf c x) r r ⌝ }
@@ -911,8 +925,8 @@ fn put_in(
     ensures { λ r. ⌜ Holds most (idRow (now («to_clients» .exit)) (now («to_starts» .exit)) (now («to_ends» .exit))) r
         (combined union (idRows (now (clients .entry)) (now (starts .entry)) (now (ends .entry)) n) (idRows (c ∷ []) (s ∷ []) (e ∷ []) 1)) ⌝ }
 {
-    let i = below(clients, ends, n, 0, c, s as u64);
-    let j = below(clients, starts, n, i, c, e as u64 + 1);
+    let i = count_below(clients, ends, n, 0, c, s as u64);
+    let j = count_below(clients, starts, n, i, c, e as u64 + 1);
     let x = lead(clients, starts, n, i, c, s);
     let y = trail(clients, ends, j, c, e);
     let k = i + 1 + (n - j);

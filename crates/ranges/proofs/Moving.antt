@@ -2,7 +2,7 @@
 use mathlib.Core.Path.{_≡_, refl, ap, sym, subst, _∙_}
 use mathlib.Core.Logic.{⊎-elim}
 use mathlib.Core.List.{List, [], _∷_}
-use Prim.Native.Nat.{ℕ, zero, suc, _+_, _-_, _*_, _≤_, _<_}
+use Prim.Native.Nat.{ℕ, suc, _+_, _-_, _*_, _≤_, _<_}
 use native.Mathlib.Omega.{arith}
 use lib.ListN.{length, getD, set, length-set}
 use lib.Seq.{getD-set-same, getD-set-other}
@@ -11,29 +11,9 @@ use Rattle.tables.specs.Inner.Rows.{span}
 use Rattle.tables.specs.Inner.Edit.{range, Moved, Stands}
 use Rattle.tables.proofs.Joining.{split}
 use Rattle.tables.proofs.Pushing.{row-is}
+use Rattle.tables.proofs.Copying.{Copied, copied-none, copied-more}
 use Rattle.ranges.specs.Inner.{rowAt}
 use Rattle.ranges.proofs.Stores.{added-below, added-at}
-
--- i elements from `from` on stand from `to` on
-pub record Copied (src : List ℕ) (from : ℕ) (out₀ : List ℕ) (to i : ℕ) (out : List ℕ) : Type 0 where
-  pub same : length out ≡ length out₀
-  pub before2 : (x : ℕ) → x < to → getD out x 0 ≡ getD out₀ x 0
-  pub there : (x : ℕ) → x < i → getD out (to + x) 0 ≡ getD src (from + x) 0
-
-pub copied-none : (src : List ℕ) (from : ℕ) (out : List ℕ) (to : ℕ) → Copied src from out to 0 out
-copied-none src from out to = record { same = refl; before2 = λ x h. refl; there = λ x h. absurd (omega arith) }
-
-pub copied-more : {src out₀ out : List ℕ} {from to i : ℕ} → Copied src from out₀ to i out → to + i < length out₀ → Copied src from out₀ to (i + 1) (set out (to + i) (getD src (from + i) 0))
-copied-more {src} {out₀} {out} {from} {to} {i} c h =
-    record {
-      same = simp length-set (c .same);
-      before2 = λ x l. getD-set-other out (to + i) x _ 0 (omega arith) ∙ c .before2 x l;
-      there = λ x l. ⊎-elim
-          (λ m. getD-set-other out (to + i) (to + x) _ 0 (omega arith) ∙ c .there x m)
-          (λ m. ap (λ (y : ℕ). getD (set out (to + i) (getD src (from + i) 0)) (to + y) 0) (let z : x ≡ i = omega arith in z)
-          ∙ (getD-set-same out (to + i) _ 0 (omega (arith, c .same)) ∙ ap (λ (y : ℕ). getD src (from + y) 0) (let z : i ≡ x = omega arith in z)))
-          (split x i);
-    }
 
 -- the rows
 pub copied-rows : {src out₀ out : List ℕ} {a b c i : ℕ} → Copied src (2 * a) out₀ (2 * c) i out → 2 * (b - a) ≤ i → Moved (rowAt src) a b (rowAt out₀) c (rowAt out)

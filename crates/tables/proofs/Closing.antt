@@ -1,16 +1,13 @@
 -- What an operation writes is a table again, with the rows that it should have. Assumes nothing.
 use mathlib.Core.Logic.{_⊎_, inl, inr, ⊎-elim}
-use mathlib.Core.Path.{_≡_, refl, ap, ap₂, sym, subst, _∙_}
-use mathlib.Core.List.{List, [], _∷_, _++_}
-use Prim.Native.Nat.{ℕ, zero, suc, _+_, _-_, _*_, _/_, _≤_, _<_}
+use mathlib.Core.Path.{_≡_, sym, subst, _∙_}
+use mathlib.Core.List.{[], _∷_}
+use Prim.Native.Nat.{ℕ, zero, suc, _+_, _-_, _≤_, _<_}
 use native.Mathlib.Omega.{arith}
-use lib.ListN.{length, getD, replicate, length-append, length-replicate}
-use Rattle.tables.specs.Inner.Rows.{Row, Rows, at, JoinedFrom, Joined, combined, span}
+use Rattle.tables.specs.Inner.Rows.{Row, Rows, at, JoinedFrom, span}
 use mathlib.Core.Bool.{Bool, true, false, cond, _&&_}
 use lib.Dec.{leb, ltb}
 use Rattle.tables.proofs.Joining.{split, at-here, at-past, at-below}
-use Rattle.tables.proofs.Spanning.{length-span, span-same}
-use Rattle.tables.proofs.Pushing.{row-is}
 
 -- every row is a unit row
 unfoldable pub Units : Rows → Type 0

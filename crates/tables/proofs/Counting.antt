@@ -1,16 +1,16 @@
 -- A table has a row for each number at which a weight begins; so a union, and a difference, of n and m unit rows has at most n + m rows. Assumes nothing.
 use mathlib.Core.Logic.{_⊎_, inl, inr, ⊎-elim}
-use mathlib.Core.Path.{_≡_, refl, ap, ap₂, sym, subst, _∙_}
-use mathlib.Core.List.{List, [], _∷_}
-use Prim.Native.Nat.{ℕ, zero, suc, _+_, _-_, _≤_, _<_, max, min}
+use mathlib.Core.Path.{_≡_, refl, ap, ap₂, sym, _∙_}
+use mathlib.Core.List.{[], _∷_}
+use Prim.Native.Nat.{ℕ, zero, suc, _+_, _-_, _≤_, max, min}
 use native.Mathlib.Omega.{arith}
 use native.Mathlib.Decide.{ℕ-discrete}
-use mathlib.Core.Bool.{Bool, true, false, cond}
+use mathlib.Core.Bool.{cond}
 use lib.Dec.{eqb}
 use borrow.Author.Tests.{eq-eqb, ne-eqb}
 use lib.ListN.{length}
-use Rattle.tables.specs.Inner.Rows.{Row, Rows, at, JoinedFrom, Joined, push, put, tabulate, top, combined, union, difference}
-use Rattle.tables.proofs.Joining.{split, at-here, at-past, at-top, pushed, Pushed, grown, added, Built, built, built-unique, unique}
+use Rattle.tables.specs.Inner.Rows.{Rows, at, JoinedFrom, Joined, push, put, tabulate, top, combined, union, difference}
+use Rattle.tables.proofs.Joining.{split, at-here, at-past, at-top, pushed, Pushed, grown, added, built, built-unique}
 
 same? : (a b : ℕ) → (a ≡ b) ⊎ (a ≡ b → ⊥)
 same? a b = go (ℕ-discrete a b)

@@ -1,11 +1,11 @@
 -- The difference a row a step: the intersection of the left table with the gaps of the right one. Assumes nothing.
 use mathlib.Core.Logic.{_⊎_, inl, inr, ⊎-elim}
 use mathlib.Core.Path.{_≡_, refl, ap, ap₂, sym, subst, _∙_}
-use mathlib.Core.List.{List, [], _∷_}
+use mathlib.Core.List.{[]}
 use Prim.Native.Nat.{ℕ, zero, suc, _+_, _-_, _≤_, _<_, max, min}
 use native.Mathlib.Omega.{arith}
-use Rattle.tables.specs.Inner.Rows.{Row, Rows, at, JoinedFrom, Joined, top, push, combined, difference, span}
-use Rattle.tables.specs.Inner.Sweep.{Reached, Place, Touches, Pushes, Holds}
+use Rattle.tables.specs.Inner.Rows.{Row, Rows, at, top, push, combined, difference, span}
+use Rattle.tables.specs.Inner.Sweep.{Place, Touches, Pushes, Holds}
 use Rattle.tables.specs.Inner.Unite.{Passed}
 use Rattle.tables.specs.Inner.Cross.{Keeps}
 use Rattle.tables.specs.Inner.Differ.{GapStart, GapEnd}

@@ -1,14 +1,13 @@
 -- Rows that cannot hold a number, left out of the search. Assumes nothing.
-use mathlib.Core.Logic.{_⊎_, inl, inr, ⊎-elim}
 use mathlib.Core.Path.{_≡_, refl, ap, sym, subst, _∙_}
-use mathlib.Core.List.{List, [], _∷_}
+use mathlib.Core.List.{_∷_}
 use Prim.Native.Nat.{ℕ, zero, suc, _+_, _-_, _≤_, _<_}
-use mathlib.Core.Bool.{Bool, true, false, cond, _&&_}
+use mathlib.Core.Bool.{Bool, cond, _&&_}
 use lib.Dec.{leb, ltb}
 use native.Mathlib.Omega.{arith}
-use Rattle.tables.specs.Inner.Rows.{Row, Rows, at, JoinedFrom, span}
+use Rattle.tables.specs.Inner.Rows.{Row, Rows, at, span}
 use Rattle.tables.specs.Answers.{Says}
-use Rattle.tables.proofs.Joining.{split, at-here, at-past, at-before, at-below}
+use Rattle.tables.proofs.Joining.{at-here, at-past, at-below}
 use Rattle.tables.proofs.Spanning.{Links, spanned, span-cons, span-none}
 
 module _ (row : ℕ → Row) (n : ℕ) (f : (j : ℕ) → j < n → Links row j) where

@@ -1,10 +1,9 @@
 -- A statement by `Gives` or by `Tells` determines the answer and what is left in the lent memory. Assumes nothing.
-use mathlib.Core.Path.{_≡_, refl, ap, sym, _∙_}
-use mathlib.Core.List.{List, []}
-use mathlib.Core.Bool.{Bool, true, false}
-use Prim.Native.Nat.{ℕ, _≤_, _<_}
+use mathlib.Core.Path.{_≡_, ap, sym, _∙_}
+use mathlib.Core.List.{List}
+use Prim.Native.Nat.{ℕ}
 use native.Mathlib.Omega.{arith}
-use lib.ListN.{length, replicate}
+use lib.ListN.{length}
 use Rattle.tables.specs.Answers.{Answer, answer, Gives, done, full, malformed, Tells, says, refuses}
 
 -- at most one thing is right

@@ -2,20 +2,19 @@
 -- Places are found by halving. Assumes nothing.
 use mathlib.Core.Path.{_≡_, refl, ap, ap₂, sym, subst, _∙_}
 use mathlib.Core.Logic.{_⊎_, inl, inr, ⊎-elim}
-use mathlib.Core.List.{List, [], _∷_, _++_, append-nil, append-assoc}
-use mathlib.Core.Bool.{Bool, true, false, cond, _&&_}
+use mathlib.Core.List.{[], _∷_, _++_, append-nil, append-assoc}
+use mathlib.Core.Bool.{cond, _&&_}
 use Prim.Native.Nat.{ℕ, zero, suc, _+_, _-_, _*_, _/_, _≤_, _<_, min, max}
 use native.Mathlib.Omega.{arith}
 use native.Mathlib.Nat.{add-zero}
 use lib.Dec.{leb, ltb}
-use lib.ListN.{length, length-append}
 use borrow.Author.Tests.{lt-ltb, le-ltb}
-use Rattle.tables.specs.Inner.Rows.{Row, Rows, at, JoinedFrom, Joined, combined, union, difference, span, Follows}
+use Rattle.tables.specs.Inner.Rows.{Row, Rows, at, JoinedFrom, Joined, combined, union, difference, span}
 use Rattle.tables.specs.Inner.Edit.{Plain, range, Advanced, Parted, starts, ends, Starting, Ending}
 use Rattle.tables.proofs.Joining.{split, at-here, at-past, at-before}
 use Rattle.tables.proofs.Meaning.{combined-joined, combined-at, combined-only}
 use Rattle.tables.proofs.Pushing.{piece}
-use Rattle.tables.proofs.Spanning.{Links, unit-links, spanned, length-span}
+use Rattle.tables.proofs.Spanning.{Links, unit-links, spanned}
 use Rattle.tables.proofs.Closing.{span-unit}
 use Rattle.tables.proofs.Finding.{found}
 

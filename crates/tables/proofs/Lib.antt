@@ -1,5 +1,6 @@
 -- Laws that belong to no one function.
 pub mod Giving
+pub mod Below
 pub mod Saying
 pub mod Joining
 pub mod Meaning
@@ -14,6 +15,7 @@ pub mod Uniting
 pub mod Taking
 pub mod Crossing
 pub mod Zeroing
+pub mod Copying
 pub mod Sets
 pub mod Differing
 pub mod Laying

@@ -1,10 +1,9 @@
 -- The combination of two tables is the one joined table with the combined weights. Assumes nothing.
-use mathlib.Core.Logic.{_⊎_, inl, inr, ⊎-elim}
-use mathlib.Core.Path.{_≡_, refl, ap₂, sym, _∙_}
-use mathlib.Core.List.{List, [], _∷_}
-use Prim.Native.Nat.{ℕ, zero, suc, _+_, _≤_, _<_, max}
+use mathlib.Core.Logic.{_⊎_, inl, inr}
+use mathlib.Core.Path.{_≡_, ap₂, sym, _∙_}
+use Prim.Native.Nat.{ℕ, _≤_, _<_, max}
 use native.Mathlib.Omega.{arith}
-use Rattle.tables.specs.Inner.Rows.{Row, Rows, at, JoinedFrom, Joined, push, put, tabulate, top, combined, union, difference, intersection}
+use Rattle.tables.specs.Inner.Rows.{Rows, at, Joined, top, combined}
 use Rattle.tables.proofs.Joining.{split, at-top, unique, Built, built}
 
 -- EXISTENCE AND UNIQUENESS: of the joined tables, combined f a b is the one that holds x with weight f (weight in a) (weight in b)

@@ -1,7 +1,7 @@
 -- Laws of merging that the run of demand 3 needs, each from existence and uniqueness; and rows with a reason. Assumes nothing.
-use mathlib.Core.Path.{_≡_, refl, ap, ap₂, sym, _∙_}
-use mathlib.Core.List.{List, [], _∷_}
-use Prim.Native.Nat.{ℕ, zero, suc, _+_, max}
+use mathlib.Core.Path.{_≡_, refl, sym}
+use mathlib.Core.List.{[], _∷_}
+use Prim.Native.Nat.{ℕ, _+_, max}
 use native.Mathlib.Omega.{arith}
 use Rattle.tables.specs.Inner.Rows.{Row, Rows, at, Joined, push, put, tabulate, top, combined, union, difference, intersection}
 use Rattle.tables.proofs.Meaning.{combined-joined, combined-at, combined-only}

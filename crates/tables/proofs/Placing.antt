@@ -1,6 +1,6 @@
 -- Rows that are copied, moved and stored, one part behind the other: which rows stand there afterwards. Assumes nothing.
-use mathlib.Core.Path.{_≡_, refl, ap, ap₂, sym, subst, _∙_}
-use mathlib.Core.List.{List, [], _∷_, _++_, append-assoc}
+use mathlib.Core.Path.{_≡_, refl, ap, ap₂, subst, _∙_}
+use mathlib.Core.List.{[], _∷_, _++_, append-assoc}
 use Prim.Native.Nat.{ℕ, zero, suc, _+_, _-_, _≤_, _<_}
 use native.Mathlib.Omega.{arith}
 use lib.ListN.{length, length-append}

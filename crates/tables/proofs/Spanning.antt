@@ -1,15 +1,13 @@
 -- The rows of a slice, by their index. Assumes nothing.
 use mathlib.Core.Path.{_≡_, refl, ap, ap₂, sym, subst, _∙_}
-use mathlib.Core.Logic.{_⊎_, inl, inr, ⊎-elim}
-use mathlib.Core.List.{List, [], _∷_, _++_}
-use Prim.Native.Nat.{ℕ, zero, suc, _+_, _-_, _*_, _≤_, _<_}
+use mathlib.Core.List.{[], _∷_, _++_}
+use Prim.Native.Nat.{ℕ, zero, suc, _+_, _-_, _≤_, _<_}
 use native.Mathlib.Omega.{arith}
-use native.Mathlib.Nat.{add-suc, add-zero}
-use lib.ListN.{length, take, drop, getD}
-use lib.Seq.{drop-cons}
+use native.Mathlib.Nat.{add-zero}
+use lib.ListN.{length}
 use borrow.Author.Tests.{eq-eqb}
-use Rattle.tables.specs.Inner.Rows.{Row, Rows, at, JoinedFrom, Joined, push, top, span, Follows}
-use Rattle.tables.proofs.Joining.{at-here, at-past, at-before, at-below, pushed, Pushed, grown, added}
+use Rattle.tables.specs.Inner.Rows.{Row, Rows, JoinedFrom, push, span, Follows}
+use Rattle.tables.proofs.Joining.{pushed, Pushed, grown, added}
 
 -- the row kind's rule at an index: not empty, a weight, behind the row before, and of another weight where it touches that
 pub record Links (row : ℕ → Row) (i : ℕ) : Type 0 where

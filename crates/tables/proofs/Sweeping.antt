@@ -1,14 +1,14 @@
 -- A place in a table, and the piece ahead of it: for rows of every kind, by their index. Assumes nothing.
 use mathlib.Core.Logic.{⊎-elim}
 use mathlib.Core.Path.{_≡_, refl, ap, ap₂, sym, subst, _∙_}
-use mathlib.Core.List.{List, [], _∷_}
-use Prim.Native.Nat.{ℕ, zero, suc, _+_, _-_, _^_, _≤_, _<_}
+use mathlib.Core.List.{[]}
+use Prim.Native.Nat.{ℕ, suc, _+_, _-_, _^_, _≤_, _<_}
 use native.Mathlib.Omega.{arith}
 use native.Mathlib.Numerals.{add-one}
-use Rattle.tables.specs.Inner.Rows.{Row, Rows, at, JoinedFrom, put, combined, span}
+use Rattle.tables.specs.Inner.Rows.{Row, Rows, at, put, combined, span}
 use Rattle.tables.specs.Inner.Sweep.{Reached, Place, Piece, Holds}
 use Rattle.tables.proofs.Joining.{split, at-here, at-past, at-below, Built, built-none, built-put, combination}
-use Rattle.tables.proofs.Spanning.{Links, unit-links, spanned, span-cons, span-none}
+use Rattle.tables.proofs.Spanning.{Links, spanned, span-cons, span-none}
 
 module _ (row : ℕ → Row) (n : ℕ) where
   -- with no row left, nothing

@@ -3,7 +3,7 @@ use mathlib.Core.Logic.{⊎-elim}
 use mathlib.Core.Path.{_≡_, refl, sym, subst}
 use Prim.Native.Nat.{ℕ, _+_, _-_, _≤_, _<_, max}
 use native.Mathlib.Omega.{arith}
-use Rattle.tables.specs.Inner.Rows.{Row, at, span}
+use Rattle.tables.specs.Inner.Rows.{Row}
 use Rattle.tables.specs.Inner.Unite.{Adds, Rest, United}
 use Rattle.tables.proofs.Joining.{split}
 use Rattle.tables.proofs.Spanning.{Links}

@@ -1,14 +1,14 @@
 -- The union a row a step: what a stored row does to the rows put out, and what the rows put out mean. Assumes nothing.
 use mathlib.Core.Logic.{_⊎_, inl, inr, ⊎-elim}
 use mathlib.Core.Path.{_≡_, refl, ap, ap₂, sym, subst, subst₂, _∙_}
-use mathlib.Core.List.{List, [], _∷_}
-use Prim.Native.Nat.{ℕ, zero, suc, _+_, _-_, _≤_, _<_, max, min}
+use mathlib.Core.List.{[]}
+use Prim.Native.Nat.{ℕ, _+_, _-_, _≤_, _<_, max, min}
 use native.Mathlib.Omega.{arith}
 use native.Mathlib.Numerals.{add-one}
-use Rattle.tables.specs.Inner.Rows.{Row, Rows, at, JoinedFrom, Joined, top, push, put, combined, union, span}
+use Rattle.tables.specs.Inner.Rows.{Row, Rows, at, JoinedFrom, top, push, put, combined, union, span}
 use Rattle.tables.specs.Inner.Sweep.{Touches, Pushes, Holds}
 use Rattle.tables.specs.Inner.Unite.{Passed, Ended, Counted, Starts, Ends, Last, Adds, Rest, United}
-use Rattle.tables.proofs.Joining.{split, at-past, at-below, at-top, Built, built-none, built-put, combination}
+use Rattle.tables.proofs.Joining.{split, at-past, at-below, at-top, Built, built-put, combination}
 use Rattle.tables.proofs.Spanning.{Links, spanned, span-cons, span-none, span-same}
 use Rattle.tables.proofs.Pushing.{piece, row-is, pushes-add, pushes-over, pushes-grow, holds-push}
 use Rattle.tables.proofs.Closing.{span-unit}

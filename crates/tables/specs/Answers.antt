@@ -1,9 +1,9 @@
 -- What every table routine answers, and leaves in what it is lent. Document 01, "Refusal numbers" and "Tables".
 use mathlib.Core.Path.{_≡_}
 use mathlib.Core.Bool.{Bool, true, false}
-use mathlib.Core.List.{List, []}
-use Prim.Native.Nat.{ℕ, _≤_, _<_}
-use lib.ListN.{length}
+use mathlib.Core.List.{List, [], _++_}
+use Prim.Native.Nat.{ℕ, _-_, _≤_, _<_}
+use lib.ListN.{length, replicate}
 use Rattle.varint.specs.Answer.{noOf}
 use Rattle.varint.specs.declared.Refusal.the-variants.{Full, Malformed}
 use Rattle.tables.specs.declared.Made.{Made}
@@ -36,6 +36,10 @@ saidTold (told.Refused e) = answer (noOf e) false
 abbrev pub saidCounted : Counted → Answer ℕ
 saidCounted (counted.Is n) = answer 0 n
 saidCounted (counted.Refused e) = answer (noOf e) 0
+
+-- a list in front of a slice of n elements, and zeros behind it
+abbrev pub padded : ℕ → List ℕ → List ℕ
+padded n l = l ++ replicate (n - length l) 0
 
 -- A routine that writes a table. `ok`: its input tables keep their rules. `right t`: t is the right result. `most`: how many rows the output
 -- holds and the limit allows. `fill t`: what was lent, with t in front and every later element zero. `out`: what was lent, afterwards.

@@ -2,7 +2,7 @@
 use native.Mathlib.Omega.{arith}
 use borrow.Author.Tests.{not-true, not-false}
 use Rattle.ids.specs.Tables.{three}
-use Rattle.ids.proofs.Answering.{writes-malformed, Alike, captured-of}
+use Rattle.ids.proofs.Answering.{writes-malformed, captured-of}
 use borrow.Author.Needs.{needs}
 use Rattle.ids.proofs.capture.Statement.{statement}
 use Rattle.ids.proofs.capture.Tie as tie

@@ -6,7 +6,7 @@ use borrow.Author.Tests.{not-true, not-false}
 use Rattle.tables.proofs.Sets.{union-means}
 use Rattle.ids.specs.Rows.{row}
 use Rattle.ids.specs.Tables.{held, three}
-use Rattle.ids.proofs.Answering.{writes-malformed, Alike, made-of}
+use Rattle.ids.proofs.Answering.{writes-malformed, made-of}
 use Rattle.ids.proofs.Inserting.{captured-inserted, merged-inserted}
 use Rattle.ids.proofs.Splicing.{one-narrow, both-one}
 use borrow.Author.Needs.{needs}

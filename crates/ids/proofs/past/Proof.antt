@@ -1,6 +1,5 @@
 use native.Mathlib.Omega.{arith}
 use Rattle.ids.proofs.Checking.{past-says}
-use borrow.Author.Needs.{needs}
 use Rattle.ids.proofs.past.Statement.{statement}
 use Rattle.ids.proofs.past.Tie as tie
 use Rattle.ids.proofs.past.Reads as reads

@@ -1,5 +1,4 @@
 use Rattle.ids.proofs.Checking.{picked-yes, picked-no}
-use borrow.Author.Needs.{needs}
 use Rattle.ids.proofs.pick_wide.Statement.{statement}
 use Rattle.ids.proofs.pick_wide.Tie as tie
 use Rattle.ids.proofs.pick_wide.Reads as reads

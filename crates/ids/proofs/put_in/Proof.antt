@@ -8,51 +8,51 @@ use Rattle.ids.proofs.put_in.Statement.{statement}
 use Rattle.ids.proofs.put_in.Tie as tie
 use Rattle.ids.proofs.put_in.Reads as reads
 use Rattle.ids.proofs.put_in.Lts as lts
-use Rattle.ids.proofs.below.Reads as below-reads
+use Rattle.ids.proofs.count_below.Reads as count-below-reads
 use Rattle.ids.proofs.lead.Reads as lead-reads
 use Rattle.ids.proofs.splice.Reads as splice-reads
 use Rattle.ids.proofs.splice_wide.Reads as splice-wide-reads
 use Rattle.ids.proofs.trail.Reads as trail-reads
 
-below-requires : tie.Need-below-requires
-below-requires c κs = let t = c .before .before .before .before .before .before .pre .0 in ((omega (arith, t .few), omega (arith, t .few), omega (arith, c .before .before .before .before .before .before .good)), parted-all _ _ _)
+count-below-requires : tie.Need-count-below-requires
+count-below-requires c κs = let t = c .before .before .before .before .before .before .pre .0 in ((omega (arith, t .few), omega (arith, t .few), omega (arith, c .before .before .before .before .before .before .good)), parted-all _ _ _)
 
-add-below : tie.Need-add-below
-add-below c = search needs
+add-count-below : tie.Need-add-count-below
+add-count-below c = search needs
 
-below-requires-2 : tie.Need-below-requires-2
-below-requires-2 c κs = let t = c .before .before .before .before .before .before .before .pre .0 in (
+count-below-requires-2 : tie.Need-count-below-requires-2
+count-below-requires-2 c κs = let t = c .before .before .before .before .before .before .before .pre .0 in (
   (omega (arith, t .few), omega (arith, t .few), omega (arith, c .before .before .before .before .before .before .before .good)),
-  parted-from _ (plain _ _ _ (c .before .before .before .before .before .shared-slice-known2 .given) (c .before .before .before .before .shared-slice-known3 .given) _ t) (c .below .ensures .0) (omega (arith, c .before .before .before .before .before .before .before .pre .1 .0)),
+  parted-from _ (plain _ _ _ (c .before .before .before .before .before .shared-slice-known2 .given) (c .before .before .before .before .shared-slice-known3 .given) _ t) (c .count-below .ensures .0) (omega (arith, c .before .before .before .before .before .before .before .pre .1 .0)),
 )
 
 lead-requires : tie.Need-lead-requires
 lead-requires c κs = (omega (arith, c .before .before .before .before .before .before .before .before .pre .0 .few), omega (arith, c .before .before .before .before .before .before .before .before .pre .0 .few))
 
 trail-requires : tie.Need-trail-requires
-trail-requires c κs = (omega (arith, c .before .before .before .before .before .before .before .before .before .pre .0 .few, c .before .below2 .ensures .0 .within), omega (arith, c .before .before .before .before .before .before .before .before .before .pre .0 .few, c .before .below2 .ensures .0 .within))
+trail-requires c κs = (omega (arith, c .before .before .before .before .before .before .before .before .before .pre .0 .few, c .before .count-below2 .ensures .0 .within), omega (arith, c .before .before .before .before .before .before .before .before .before .pre .0 .few, c .before .count-below2 .ensures .0 .within))
 
 add-k : tie.Need-add-k
-add-k c = omega (arith, c .before .before .before .before .before .before .before .before .before .before .pre .0 .few, c .before .before .before .below .ensures .0 .within)
+add-k c = omega (arith, c .before .before .before .before .before .before .before .before .before .before .pre .0 .few, c .before .before .before .count-below .ensures .0 .within)
 
 sub-k : tie.Need-sub-k
-sub-k c = c .before .before .below2 .ensures .0 .within
+sub-k c = c .before .before .count-below2 .ensures .0 .within
 
 add-k-2 : tie.Need-add-k-2
-add-k-2 c = omega (arith, c .before .before .before .before .before .before .before .before .before .before .pre .0 .few, c .before .before .before .below .ensures .0 .within, c .before .before .below2 .ensures .0 .within)
+add-k-2 c = omega (arith, c .before .before .before .before .before .before .before .before .before .before .pre .0 .few, c .before .before .before .count-below .ensures .0 .within, c .before .before .count-below2 .ensures .0 .within)
 
 returns : tie.Need-returns
 returns c = let t = c .before .before .before .before .before .before .before .before .before .before .before .pre .0 in
-    laid-full _ _ _ (c .before .before .before .before .before .before .before .before .before .shared-slice-known2 .given) (c .before .before .before .before .before .before .before .before .shared-slice-known3 .given) _ t _ _ _ _ _ _ _ (omega (arith, c .before .before .before .before .before .before .before .before .before .before .before .good)) (omega (arith, c .before .before .before .before .before .before .before .before .before .before .before .good)) (c .before .before .before .before .before .before .before .before .before .before .before .pre .1 .0) (c .before .before .before .below2 .ensures .1) (c .before .before .before .before .below .ensures .0) (c .before .before .before .below2 .ensures .0) (c .before .before .lead .ensures) (c .before .trail .ensures) _ _ _ refl (c .if1 .taken)
+    laid-full _ _ _ (c .before .before .before .before .before .before .before .before .before .shared-slice-known2 .given) (c .before .before .before .before .before .before .before .before .shared-slice-known3 .given) _ t _ _ _ _ _ _ _ (omega (arith, c .before .before .before .before .before .before .before .before .before .before .before .good)) (omega (arith, c .before .before .before .before .before .before .before .before .before .before .before .good)) (c .before .before .before .before .before .before .before .before .before .before .before .pre .1 .0) (c .before .before .before .count-below2 .ensures .1) (c .before .before .before .before .count-below .ensures .0) (c .before .before .before .count-below2 .ensures .0) (c .before .before .lead .ensures) (c .before .trail .ensures) _ _ _ refl (c .if1 .taken)
 
 splice-wide-requires : tie.Need-splice-wide-requires
-splice-wide-requires c κs = (c .before .before .before .before .below2 .ensures .1, c .before .before .before .before .below2 .ensures .0 .within, omega (arith, c .before .before .before .before .before .before .before .before .before .before .before .before .pre .0 .few), omega (arith, c .before .if1 .left, c .before .before .before .before .before .before .before .before .before .before .before .before .pre .1 .1))
+splice-wide-requires c κs = (c .before .before .before .before .count-below2 .ensures .1, c .before .before .before .before .count-below2 .ensures .0 .within, omega (arith, c .before .before .before .before .before .before .before .before .before .before .before .before .pre .0 .few), omega (arith, c .before .if1 .left, c .before .before .before .before .before .before .before .before .before .before .before .before .pre .1 .1))
 
 splice-requires : tie.Need-splice-requires
-splice-requires c κs = (c .before .before .before .before .before .before .before .before .below2 .ensures .1, c .before .before .before .before .before .before .before .before .below2 .ensures .0 .within, omega (arith, c .before .before .before .before .before .before .before .before .before .before .before .before .before .before .before .before .pre .0 .few), omega (arith, c .before .before .before .before .before .if1 .left, c .before .before .before .before .before .before .before .before .before .before .before .before .before .before .before .before .pre .1 .1))
+splice-requires c κs = (c .before .before .before .before .before .before .before .before .count-below2 .ensures .1, c .before .before .before .before .before .before .before .before .count-below2 .ensures .0 .within, omega (arith, c .before .before .before .before .before .before .before .before .before .before .before .before .before .before .before .before .pre .0 .few), omega (arith, c .before .before .before .before .before .if1 .left, c .before .before .before .before .before .before .before .before .before .before .before .before .before .before .before .before .pre .1 .1))
 
 splice-requires-2 : tie.Need-splice-requires-2
-splice-requires-2 c κs = (c .before .before .before .before .before .before .before .before .before .before .before .before .below2 .ensures .1, c .before .before .before .before .before .before .before .before .before .before .before .before .below2 .ensures .0 .within, omega (arith, c .before .before .before .before .before .before .before .before .before .before .before .before .before .before .before .before .before .before .before .before .pre .0 .few), omega (arith, c .before .before .before .before .before .before .before .before .before .if1 .left, c .before .before .before .before .before .before .before .before .before .before .before .before .before .before .before .before .before .before .before .before .pre .1 .1))
+splice-requires-2 c κs = (c .before .before .before .before .before .before .before .before .before .before .before .before .count-below2 .ensures .1, c .before .before .before .before .before .before .before .before .before .before .before .before .count-below2 .ensures .0 .within, omega (arith, c .before .before .before .before .before .before .before .before .before .before .before .before .before .before .before .before .before .before .before .before .pre .0 .few), omega (arith, c .before .before .before .before .before .before .before .before .before .if1 .left, c .before .before .before .before .before .before .before .before .before .before .before .before .before .before .before .before .before .before .before .before .pre .1 .1))
 
 same-length : tie.Need-same-length
 same-length c = search needs
@@ -65,15 +65,15 @@ same-length-3 c = search needs
 
 returns-2 : tie.Need-returns-2
 returns-2 c = let t = c .before .before .before .before .before .before .before .before .before .before .before .before .before .before .before .before .before .before .before .before .before .before .before .pre .0 in
-    laid-done _ _ _ (c .before .before .before .before .before .before .before .before .before .before .before .before .before .before .before .before .before .before .before .before .before .shared-slice-known2 .given) (c .before .before .before .before .before .before .before .before .before .before .before .before .before .before .before .before .before .before .before .before .shared-slice-known3 .given) _ t _ _ _ _ _ _ _ (omega (arith, c .before .before .before .before .before .before .before .before .before .before .before .before .before .before .before .before .before .before .before .before .before .before .before .good)) (omega (arith, c .before .before .before .before .before .before .before .before .before .before .before .before .before .before .before .before .before .before .before .before .before .before .before .good)) (c .before .before .before .before .before .before .before .before .before .before .before .before .before .before .before .before .before .before .before .before .before .before .before .pre .1 .0) (c .before .before .before .before .before .before .before .before .before .before .before .before .before .before .before .below2 .ensures .1) (c .before .before .before .before .before .before .before .before .before .before .before .before .before .before .before .before .below .ensures .0) (c .before .before .before .before .before .before .before .before .before .before .before .before .before .before .before .below2 .ensures .0) (c .before .before .before .before .before .before .before .before .before .before .before .before .before .before .lead .ensures) (c .before .before .before .before .before .before .before .before .before .before .before .before .before .trail .ensures) _ _ _ _ _ refl (c .before .before .before .before .before .before .before .before .before .before .before .before .if1 .left) (c .before .before .before .before .before .before .before .before .before .before .splice-wide .ensures) (c .before .before .before .before .before .before .splice .ensures) (c .before .before .splice2 .ensures)
+    laid-done _ _ _ (c .before .before .before .before .before .before .before .before .before .before .before .before .before .before .before .before .before .before .before .before .before .shared-slice-known2 .given) (c .before .before .before .before .before .before .before .before .before .before .before .before .before .before .before .before .before .before .before .before .shared-slice-known3 .given) _ t _ _ _ _ _ _ _ (omega (arith, c .before .before .before .before .before .before .before .before .before .before .before .before .before .before .before .before .before .before .before .before .before .before .before .good)) (omega (arith, c .before .before .before .before .before .before .before .before .before .before .before .before .before .before .before .before .before .before .before .before .before .before .before .good)) (c .before .before .before .before .before .before .before .before .before .before .before .before .before .before .before .before .before .before .before .before .before .before .before .pre .1 .0) (c .before .before .before .before .before .before .before .before .before .before .before .before .before .before .before .count-below2 .ensures .1) (c .before .before .before .before .before .before .before .before .before .before .before .before .before .before .before .before .count-below .ensures .0) (c .before .before .before .before .before .before .before .before .before .before .before .before .before .before .before .count-below2 .ensures .0) (c .before .before .before .before .before .before .before .before .before .before .before .before .before .before .lead .ensures) (c .before .before .before .before .before .before .before .before .before .before .before .before .before .trail .ensures) _ _ _ _ _ refl (c .before .before .before .before .before .before .before .before .before .before .before .before .if1 .left) (c .before .before .before .before .before .before .before .before .before .before .splice-wide .ensures) (c .before .before .before .before .before .before .splice .ensures) (c .before .before .splice2 .ensures)
 
 pub put-in-spec : {M : Type 1} → statement M
 put-in-spec =
     tie.close
     (tie.spec
-    below-requires
-    add-below
-    below-requires-2
+    count-below-requires
+    add-count-below
+    count-below-requires-2
     lead-requires
     trail-requires
     add-k

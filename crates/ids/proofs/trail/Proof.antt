@@ -1,5 +1,3 @@
-use native.Mathlib.Omega.{arith}
-use mathlib.Core.Path.{refl}
 use Rattle.ids.proofs.Splicing.{trails-past, trails-not}
 use borrow.Author.Needs.{needs}
 use Rattle.ids.proofs.trail.Statement.{statement}

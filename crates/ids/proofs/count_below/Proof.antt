@@ -5,10 +5,10 @@ use Rattle.tables.specs.Inner.Edit.{Parted}
 use Rattle.tables.proofs.Inserting.{parted-right, parted-left, parted-met}
 use Rattle.ids.specs.Inner.{numberOf, marks}
 use borrow.Author.Needs.{needs}
-use Rattle.ids.proofs.below.Statement.{statement}
-use Rattle.ids.proofs.below.Tie as tie
-use Rattle.ids.proofs.below.Reads as reads
-use Rattle.ids.proofs.below.Lts as lts
+use Rattle.ids.proofs.count_below.Statement.{statement}
+use Rattle.ids.proofs.count_below.Tie as tie
+use Rattle.ids.proofs.count_below.Reads as reads
+use Rattle.ids.proofs.count_below.Lts as lts
 use Rattle.ids.proofs.past.Reads as past-reads
 
 abbrev Inv-loop : tie.InvT-loop
@@ -59,8 +59,8 @@ loop-again-2 c = let n = c .before .past .ensures .wrong (c .if1 .left) in (part
 returns : tie.Need-returns Inv-loop μ-loop
 returns c = (parted-met (c .before .loop .inv .0) (omega arith), c .before .loop .inv .1)
 
-pub below-spec : {M : Type 1} → statement M
-below-spec =
+pub count-below-spec : {M : Type 1} → statement M
+count-below-spec =
     tie.close
     (tie.spec
     Inv-loop

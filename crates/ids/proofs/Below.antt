@@ -1,0 +1,59 @@
+-- "Answers depend only on rows below the count": tables with the same rows get the same answers, whatever else lies in their slices. Assumes nothing.
+use mathlib.Core.Logic.{_⊎_, _↔_}
+use mathlib.Core.Path.{_≡_, sym, subst}
+use mathlib.Core.List.{List, []}
+use Prim.Native.Nat.{ℕ, _≤_}
+use Rattle.tables.specs.Answers.{Says}
+use Rattle.tables.specs.declared.Made.{Made}
+use Rattle.tables.specs.declared.Told.{Told}
+use Rattle.tables.specs.declared.Counted.{Counted}
+use Rattle.tables.proofs.Below.{Alike, gives-below, tells-below}
+use Rattle.ids.specs.Rows.{Row, Within, Holds, Joined, TableOf, union, difference, intersection}
+use Rattle.ids.specs.Tables.{Slices, Held, most, rows, Table, Inserted, Merged, Diffed, Intersected, Captured, Contains, Empty, Clients, Len}
+
+-- the same rows below the count, which fits the slices of both or of neither
+pub record Below (a b : Held) : Type 0 where
+  pub fits : (a .count ≤ most (a .slices)) ↔ (b .count ≤ most (b .slices))
+  pub same : rows a ≡ rows b
+
+back : {a b : Held} → Below a b → Below b a
+back s = record { fits = (s .fits .1, s .fits .0); same = sym (s .same) }
+
+table : {a b : Held} → Below a b → Table a → Table b
+table s t = (s .fits .0 (t .0), subst Joined (s .same) (t .1))
+
+one : {a b : Held} → Below a b → Alike (Table a) (Table b) (rows a) (rows b)
+one s = record { rules = (table s, table (back s)); same = s .same }
+
+two : {a a′ b b′ : Held} → Below a a′ → Below b b′ → Alike {A = List Row × List Row} (Table a × Table b) (Table a′ × Table b′) (rows a, rows b) (rows a′, rows b′)
+two s z =
+    record {
+      rules = ((λ t. (table s (t .0), table z (t .1))), (λ t. (table (back s) (t .0), table (back z) (t .1))));
+      same = λ i. (s .same i, z .same i);
+    }
+
+module _ {a a′ : Held} (s : Below a a′) where
+  pub contains-below : (c k : ℕ) (r : Told) → Contains a c k r ↔ Contains a′ c k r
+  contains-below c k r = tells-below (λ t v. Says (Holds t c k) v) (one s)
+
+  pub is-empty-below : (r : Told) → Empty a r ↔ Empty a′ r
+  is-empty-below r = tells-below (λ t v. Says (t ≡ []) v) (one s)
+
+  pub len-below : (r : Counted) → Len a r ↔ Len a′ r
+  len-below r = tells-below Clients (one s)
+
+  pub insert-range-below : (x : Row) (o out : Slices) (r : Made) → Inserted a x o out r ↔ Inserted a′ x o out r
+  insert-range-below x o out r = gives-below (λ t. TableOf (λ c k. Holds t c k ⊎ Within x c k)) (one s)
+
+  pub capture-below : (o out : Slices) (r : Made) → Captured a o out r ↔ Captured a′ o out r
+  capture-below o out r = gives-below (λ t u. u ≡ t) (one s)
+
+module _ {a a′ b b′ : Held} (s : Below a a′) (z : Below b b′) (o out : Slices) (r : Made) where
+  pub merge-below : Merged a b o out r ↔ Merged a′ b′ o out r
+  merge-below = gives-below (λ t. TableOf (union (t .0) (t .1))) (two s z)
+
+  pub diff-below : Diffed a b o out r ↔ Diffed a′ b′ o out r
+  diff-below = gives-below (λ t. TableOf (difference (t .0) (t .1))) (two s z)
+
+  pub intersect-below : Intersected a b o out r ↔ Intersected a′ b′ o out r
+  intersect-below = gives-below (λ t. TableOf (intersection (t .0) (t .1))) (two s z)

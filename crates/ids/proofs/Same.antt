@@ -1,0 +1,16 @@
+-- A sentence of document 01 about the last clock, as a theorem. Assumes nothing.
+use mathlib.Core.Logic.{_⊎_, ⊎-elim}
+use mathlib.Core.List.{List, [], _∷_}
+use Prim.Native.Nat.{ℕ, zero, suc, _≤_}
+use native.Mathlib.Omega.{arith}
+use lib.ListN.{getD}
+use Rattle.ids.specs.Rows.{Holds}
+use Rattle.ids.specs.Tables.{rowsOf}
+
+-- "Ends are u32, so clock 4,294,967,295 is in no range": of no client
+pub last-clock : (n : ℕ) (cs ss es : List ℕ) → ((i : ℕ) → getD es i 0 ≤ 4294967295) → (c : ℕ) → Holds (rowsOf n cs ss es) c 4294967295 → ⊥
+last-clock zero cs ss es h c y = y
+last-clock (suc n) [] ss es h c y = y
+last-clock (suc n) (d ∷ cs) [] es h c y = y
+last-clock (suc n) (d ∷ cs) (s ∷ ss) [] h c y = y
+last-clock (suc n) (d ∷ cs) (s ∷ ss) (e ∷ es) h c y = ⊎-elim (λ w. omega (arith, h 0)) (λ w. last-clock n cs ss es (λ i. h (suc i)) c w) y

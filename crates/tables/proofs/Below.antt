@@ -1,0 +1,40 @@
+-- A promise sees the tables that it is about through their rules and their rows: what stands for them there has the same promise. Assumes nothing.
+use mathlib.Core.Logic.{_↔_}
+use mathlib.Core.Path.{_≡_, ap, sym, subst}
+use mathlib.Core.List.{List, []}
+use Prim.Native.Nat.{ℕ}
+use Rattle.tables.specs.Answers.{Answer, Gives, done, full, malformed, Tells, says, refuses}
+
+-- x′ keeps its rules where x does, and has the same rows
+pub record Alike {A : Type 0} (ok ok′ : Type 0) (x x′ : A) : Type 0 where
+  pub rules : ok ↔ ok′
+  pub same : x ≡ x′
+
+alike-back : {A : Type 0} {ok ok′ : Type 0} {x x′ : A} → Alike ok ok′ x x′ → Alike ok′ ok x′ x
+alike-back a = record { rules = (a .rules .1, a .rules .0); same = sym (a .same) }
+
+gives-alike : {A T O : Type 0} {ok ok′ : Type 0} {x x′ : A} (right : A → List T → Type 0) {most : ℕ} {fill : List T → O} {out : O} {a : Answer ℕ}
+    → Alike ok ok′ x x′ → Gives ok (right x) most fill out a → Gives ok′ (right x′) most fill out a
+gives-alike right k (done t o r l e f) = done t (k .rules .0 o) (subst (λ y. right y t) (k .same) r) l e f
+gives-alike right k (full t o r l e f) = full t (k .rules .0 o) (subst (λ y. right y t) (k .same) r) l e f
+gives-alike right k (malformed n e f) = malformed (λ o. n (k .rules .1 o)) e f
+
+tells-alike : {A B : Type 0} {ok ok′ : Type 0} {x x′ : A} (right : A → B → Type 0) {none : B} {a : Answer B}
+    → Alike ok ok′ x x′ → Tells ok (right x) none a → Tells ok′ (right x′) none a
+tells-alike right {a = a} k (says o e r) = says (k .rules .0 o) e (subst (λ y. right y (a .value)) (k .same) r)
+tells-alike right k (refuses n e) = refuses (λ o. n (k .rules .1 o)) e
+
+pub gives-below : {A T O : Type 0} {ok ok′ : Type 0} {x x′ : A} (right : A → List T → Type 0) {most : ℕ} {fill : List T → O} {out : O} {a : Answer ℕ}
+    → Alike ok ok′ x x′ → Gives ok (right x) most fill out a ↔ Gives ok′ (right x′) most fill out a
+gives-below right k = (gives-alike right k, gives-alike right (alike-back k))
+
+pub tells-below : {A B : Type 0} {ok ok′ : Type 0} {x x′ : A} (right : A → B → Type 0) {none : B} {a : Answer B}
+    → Alike ok ok′ x x′ → Tells ok (right x) none a ↔ Tells ok′ (right x′) none a
+tells-below right k = (tells-alike right k, tells-alike right (alike-back k))
+
+-- "On refusal every element is zero and the count is 0."
+pub refusal-leaves : {T O : Type 0} {ok : Type 0} {right : List T → Type 0} {most : ℕ} {fill : List T → O} {out : O} {a : Answer ℕ}
+    → (a .no ≡ 0 → ⊥) → Gives ok right most fill out a → (a .value ≡ 0) × (out ≡ fill [])
+refusal-leaves n (done t o r l e f) = absurd (n (ap (λ (b : Answer ℕ). b .no) e))
+refusal-leaves n (full t o r l e f) = (ap (λ (b : Answer ℕ). b .value) e, f)
+refusal-leaves n (malformed m e f) = (ap (λ (b : Answer ℕ). b .value) e, f)

@@ -1,0 +1,30 @@
+-- Elements that are copied one by one, into another slice or inside the same one. Assumes nothing.
+use mathlib.Core.Logic.{⊎-elim}
+use mathlib.Core.Path.{_≡_, refl, ap, _∙_}
+use mathlib.Core.List.{List}
+use Prim.Native.Nat.{ℕ, _+_, _<_}
+use native.Mathlib.Omega.{arith}
+use lib.ListN.{length, getD, set, length-set}
+use lib.Seq.{getD-set-same, getD-set-other}
+use Rattle.tables.proofs.Joining.{split}
+
+-- i elements from `from` on stand from `to` on
+pub record Copied (src : List ℕ) (from : ℕ) (out₀ : List ℕ) (to i : ℕ) (out : List ℕ) : Type 0 where
+  pub same : length out ≡ length out₀
+  pub before2 : (x : ℕ) → x < to → getD out x 0 ≡ getD out₀ x 0
+  pub there : (x : ℕ) → x < i → getD out (to + x) 0 ≡ getD src (from + x) 0
+
+pub copied-none : (src : List ℕ) (from : ℕ) (out : List ℕ) (to : ℕ) → Copied src from out to 0 out
+copied-none src from out to = record { same = refl; before2 = λ x h. refl; there = λ x h. absurd (omega arith) }
+
+pub copied-more : {src out₀ out : List ℕ} {from to i : ℕ} → Copied src from out₀ to i out → to + i < length out₀ → Copied src from out₀ to (i + 1) (set out (to + i) (getD src (from + i) 0))
+copied-more {src} {out₀} {out} {from} {to} {i} c h =
+    record {
+      same = simp length-set (c .same);
+      before2 = λ x l. getD-set-other out (to + i) x _ 0 (omega arith) ∙ c .before2 x l;
+      there = λ x l. ⊎-elim
+          (λ m. getD-set-other out (to + i) (to + x) _ 0 (omega arith) ∙ c .there x m)
+          (λ m. ap (λ (y : ℕ). getD (set out (to + i) (getD src (from + i) 0)) (to + y) 0) (let z : x ≡ i = omega arith in z)
+          ∙ (getD-set-same out (to + i) _ 0 (omega (arith, c .same)) ∙ ap (λ (y : ℕ). getD src (from + y) 0) (let z : i ≡ x = omega arith in z)))
+          (split x i);
+    }
