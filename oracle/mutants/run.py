@@ -84,7 +84,7 @@ def main():
         case = [l for l in r.stdout.split('\n') if l.startswith('DIFFER')]
         ok = r.returncode == 0 if edit is None else r.returncode == 1 and case
         bad += not ok
-        print(f'{"ok  " if ok else "WRONG"} {name}: {"agrees" if r.returncode == 0 else "caught"} ({took.group(1) if took else "-"} s){": " + case[0] if case else ""}', flush=True)
+        print(f'{"ok  " if ok else "WRONG"} {name}: {"agrees" if r.returncode == 0 else "caught"} ({took.group(1) if took else "-"} s){": " + case[0][:200] if case else ""}', flush=True)
         if not ok: print(r.stdout[-2000:], r.stderr[-2000:])
     sys.exit(1 if bad else 0)
 
