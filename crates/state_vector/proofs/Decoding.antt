@@ -33,13 +33,13 @@ pub stored-ways : (r s : Row) (t : List Row) (P : List Row → Type 0) → (r .c
 unfolding stored
 stored-ways r s t P a b = ⊎-elim (λ (e : r .client ≡ s .client). subst (λ (z : Bool). P (cond z (r ∷ t) (s ∷ stored t r))) (sym (eq-eqb (r .client) (s .client) e)) (a e)) (λ n. subst (λ (z : Bool). P (cond z (r ∷ t) (s ∷ stored t r))) (sym (ne-eqb (r .client) (s .client) n)) (b n)) (same-or-not (r .client) (s .client))
 
-look-stored-same : (t : List Row) (r : Row) → look (stored t r) (r .client) ≡ suc (r .clock)
+pub look-stored-same : (t : List Row) (r : Row) → look (stored t r) (r .client) ≡ suc (r .clock)
 unfolding stored
 look-stored-same [] r = look-here r [] (r .client) refl
 look-stored-same (s ∷ t) r = stored-ways r s t (λ l. look l (r .client) ≡ suc (r .clock)) (λ e. look-here r t (r .client) refl)
     (λ n. look-past s (stored t r) (r .client) n ∙ look-stored-same t r)
 
-look-stored-other : (t : List Row) (r : Row) (c : ℕ) → (c ≡ r .client → ⊥) → look (stored t r) c ≡ look t c
+pub look-stored-other : (t : List Row) (r : Row) (c : ℕ) → (c ≡ r .client → ⊥) → look (stored t r) c ≡ look t c
 unfolding stored
 look-stored-other [] r c n = look-past r [] c n
 look-stored-other (s ∷ t) r c n = stored-ways r s t (λ l. look l c ≡ look (s ∷ t) c)

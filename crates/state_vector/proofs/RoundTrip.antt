@@ -1,7 +1,9 @@
--- Decoding what was encoded gives the same rows, and two vectors never have the same bytes. Assumes nothing.
+-- Bytes and rows there and back: of pairs in any order the last of a client decides; decoding what was encoded gives the same rows; the encoder's most
+-- bytes; two vectors never have the same bytes. Assumes nothing.
 use mathlib.Core.Path.{_≡_, refl, ap, ap₂, sym, subst, _∙_}
+use mathlib.Core.Logic.{inl, inr}
 use mathlib.Core.List.{List, [], _∷_, _++_, append-nil, append-assoc}
-use Prim.Native.Nat.{ℕ, _+_, _^_, _≤_, _<_}
+use Prim.Native.Nat.{ℕ, suc, _+_, _^_, _≤_, _<_}
 use native.Mathlib.Omega.{arith}
 use borrow.Author.Tests.{le-leb}
 use lib.ListN.{length, take, drop, length-append}
@@ -13,7 +15,7 @@ use Rattle.varint.proofs.RoundTrip.{read-written}
 use Rattle.state_vector.specs.Rows.{Row, In, at, Rising, VectorOf}
 use Rattle.state_vector.specs.Vectors.{Slices, Held, rows, most, Table, filled}
 use Rattle.state_vector.specs.Bytes.{rowBytes, encoded, Encoded, Typed, ComesBack, saidDecoded, stored, read, pairsAt, vectorAt, Encodes, writes, malformed, Decoding, decoding, Decodes, done, refused}
-use Rattle.state_vector.proofs.Looking.{vector-one}
+use Rattle.state_vector.proofs.Looking.{look, look-in, at-look, vector-one}
 use Rattle.varint.specs.Answer.{wrote}
 use Rattle.varint.specs.declared.Refusal.{Refusal}
 use Rattle.varint.specs.declared.Wrote.{Wrote}
@@ -22,7 +24,7 @@ use Rattle.state_vector.specs.declared.Decoded.{Decoded}
 use Rattle.state_vector.proofs.Encoding.{Words, words, encoded-most}
 use Rattle.state_vector.proofs.Determined.{decoded-same}
 use Rattle.state_vector.proofs.Spanning.{length-rows}
-use Rattle.state_vector.proofs.Decoding.{same-vector, stored-ways}
+use Rattle.state_vector.proofs.Decoding.{same-vector, stored-ways, look-stored-same, look-stored-other}
 
 -- ## Pairs, read as they stand one behind the other
 
@@ -65,6 +67,42 @@ module _ (m : ℕ) (bytes rest : List ℕ) where
       let e₁ : drop p bytes ≡ n ++ (rowBytes t ++ rest) = e ∙ append-assoc n (rowBytes t) rest in
       let x : readAt 32 bytes p ≡ number.done (length t) (p + length n) = read-written 32 (length t) p bytes (rowBytes t ++ rest) (omega arith) (omega arith) h e₁ in
       rw x (pairs-read t [] (p + length n) w l (next-place bytes n (rowBytes t ++ rest) p e₁) ∙ ap (read (stores [] t)) (simp length-append (omega arith)))
+
+-- ## "a repeated client takes the last clock"
+
+stores-other : (us got : List Row) (c : ℕ) → (In us c → ⊥) → look (stores got us) c ≡ look got c
+unfolding stores
+stores-other [] got c n = refl
+stores-other (r ∷ us) got c n = stores-other us (stored got r) c (λ i. n (inr i)) ∙ look-stored-other got r c (λ e. n (inl e))
+
+stores-last : (ts got : List Row) (r : Row) (us : List Row) → (In us (r .client) → ⊥) → look (stores got (ts ++ (r ∷ us))) (r .client) ≡ suc (r .clock)
+unfolding stores
+stores-last [] got r us n = stores-other us (stored got r) (r .client) n ∙ look-stored-same got r
+stores-last (s ∷ ts) got r us n = stores-last ts (stored got s) r us n
+
+-- OF PAIRS IN ANY ORDER, THE LAST OF A CLIENT DECIDES: where no pair of its client stands behind r, the clock read is that of r
+pub decode-last : (ts : List Row) (r : Row) (us : List Row) (o out : Slices) (d : Decoding) → (In us (r .client) → ⊥) → Words (ts ++ (r ∷ us)) → Fitting (most o) [] (ts ++ (r ∷ us))
+    → length (ts ++ (r ∷ us)) < 2 ^ 32 → Decodes (encoded (ts ++ (r ∷ us))) 0 o out d → (t : List Row) × (out ≡ filled t o) × (In t (r .client)) × (at t (r .client) ≡ r .clock)
+decode-last ts r us o out d n w l h x = go x
+  where
+    all : List Row
+    all = ts ++ (r ∷ us)
+
+    got : vectorAt (most o) (encoded all) 0 ≡ read (stores [] all) (0 + length (encoded all))
+    got = vector-read (most o) (encoded all) [] all 0 w l h (sym (append-nil (encoded all)))
+
+    last : look (stores [] all) (r .client) ≡ suc (r .clock)
+    last = stores-last ts [] r us n
+
+    own : In (stores [] all) (r .client)
+    own = look-in (stores [] all) (r .client) (omega (arith, last))
+
+    go : Decodes (encoded all) 0 o out d → (t : List Row) × (out ≡ filled t o) × (In t (r .client)) × (at t (r .client) ≡ r .clock)
+    go (done g t q f v i j) =
+        let y : g ≡ stores [] all = cc got in
+        let u = subst (λ (z : List Row). VectorOf (In z) (at z) t) y v in
+        (t, j, u .keys (r .client) .1 own, u .clocks (r .client) own ∙ omega (arith, at-look (stores [] all) (r .client), last))
+    go (refused m f i j) = absurd (let z : _≡_ {A = ℕ} 0 1 = cc got in omega arith)
 
 -- ## Rising rows are stored one behind the other
 

@@ -23,7 +23,7 @@ cmp-rows-spec =
     (λ c κs. (omega (arith, c .before .before .before .before .before .pre .0 .few), omega (arith, c .before .before .before .before .before .pre .1 .few)))
     (λ c κs. (omega (arith, c .before .before .before .before .before .before .pre .0 .few), omega (arith, c .before .before .before .before .before .before .pre .1 .few)))
     (λ c κs. (omega (arith, c .before .before .before .before .before .before .before .pre .1 .few), omega (arith, c .before .before .before .before .before .before .before .pre .0 .few)))
-    (λ c. rw (c .before .any-less .ensures, c .any-less2 .ensures) (comparing-front (c .before .before .before .before .before .before .before .before .pre .0) (c .before .before .before .before .before .before .before .before .pre .1) (omega arith) (omega arith) (c .before .before .same-front .ensures .1) _ (omega arith)))
+    (λ c. let p = c .before .before .before .before .before .before .before .before .pre in rw (c .before .any-less .ensures, c .any-less2 .ensures) (comparing-front (p .0) (p .1) (omega arith) (omega arith) (c .before .before .same-front .ensures .1) _ (omega arith)))
     (λ c κs. (c .before .before .loop .inv .li, omega (arith, c .before .before .loop .inv .ta .few)))
     (λ c κs. search needs)
     (λ c. rw (c .verdict .ensures) (comparing-left (c .before .before .before .before .loop .inv) (c .before .before .if1 .taken) (c .before .any .ensures)))

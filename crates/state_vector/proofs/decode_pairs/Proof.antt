@@ -36,7 +36,7 @@ decode-pairs-spec =
     (λ c. c .before .before .before .before .before .before .before .before .before .loop .inv .clients)
     (λ c. c .before .before .before .before .before .before .before .before .before .loop .inv .clocks)
     (λ c. pairing-stop (c .before .before .before .before .before .before .before .before .before .before .before .before .before .pre) (c .before .before .before .before .before .before .before .before .before .loop .inv) (pair-second _ _ _ _ _ (c .before .before .before .before .before .before .before .before .loop-test .taken) (c .before .before .before .before .before .first .given .1) (c .before .before .before .before .before .before .before .read-u64 .ensures) (c .before .enum-told2 .given .1) (c .why-u32 .ensures) (c .before .before .before .read-u32 .ensures)))
-    (λ c κs. (pairing-table (c .before .before .before .before .before .before .before .before .before .before .before .before .before .before .before .pre) (c .before .before .before .before .before .before .before .before .before .before .before .loop .inv), (c .before .before .before .before .before .before .before .before .before .before .before .loop .inv .few, omega (arith, c .before .before .before .before .before .before .before .before .before .before .before .before .before .before .before .pre, c .before .before .before .before .before .before .before .before .before .before .before .loop .inv .clients, c .before .before .before .before .before .before .before .before .before .before .before .loop .inv .clocks))))
+    (λ c κs. let p = c .before .before .before .before .before .before .before .before .before .before .before .before .before .before .before .pre in let s = c .before .before .before .before .before .before .before .before .before .before .before .loop .inv in (pairing-table p s, (s .few, omega (arith, p, s .clients, s .clocks))))
     (λ c. c .before .before .before .before .before .put-row .kept .0 ∙ c .before .before .before .before .before .before .before .before .before .before .before .before .before .before .before .before .before .loop .inv .clients)
     (λ c. c .before .before .before .before .before .put-row .kept .1 .0 ∙ c .before .before .before .before .before .before .before .before .before .before .before .before .before .before .before .before .before .loop .inv .clocks)
     (λ c. pairing-over (c .before .before .before .before .before .before .before .before .before .before .before .before .before .before .before .before .before .before .before .before .before .pre) (c .before .before .before .before .before .before .before .before .before .before .before .before .before .before .before .before .before .loop .inv) _ (c .before .before .before .before .before .put-row .ensures) (omega arith) (pair-full _ _ _ _ _ (c .before .before .before .before .before .before .before .before .before .before .before .before .before .before .before .before .loop-test .taken) (c .before .before .before .before .before .before .before .before .before .before .before .before .before .first .given .1) (c .before .before .before .before .before .before .before .before .before .before .before .before .before .before .before .read-u64 .ensures) (c .before .before .before .before .before .before .before .before .before .second .given .1) (c .before .before .before .before .before .before .before .before .before .before .before .read-u32 .ensures)))

@@ -29,4 +29,4 @@ put-row-spec =
     (λ c. search needs)
     (λ c. search needs)
     (λ c. search needs)
-    (λ c. put-opened (c .before .before .before .before .before .before .before .before .before .before .before .before .before .before .before .before .pre .0) (c .before .before .before .before .before .before .before .before .before .before .before .before .place .ensures) _ _ _ _ (c .before .before .before .before .before .before .open-wide .kept .0) (c .before .before .«open» .kept .0) (c .before .before .before .before .before .before .before .before .before .before .before .before .before .before .before .before .pre .1 .1) (omega arith) (c .before .before .before .before .before .before .before .before .before .before .stands .ensures .wrong (c .before .before .before .before .before .before .before .before .before .if1 .left)) (c .before .before .before .before .before .before .open-wide .ensures) (c .before .before .«open» .ensures)))
+    (λ c. let p = c .before .before .before .before .before .before .before .before .before .before .before .before .before .before .before .before .pre in put-opened (p .0) (c .before .before .before .before .before .before .before .before .before .before .before .before .place .ensures) _ _ _ _ (c .before .before .before .before .before .before .open-wide .kept .0) (c .before .before .«open» .kept .0) (p .1 .1) (omega arith) (c .before .before .before .before .before .before .before .before .before .before .stands .ensures .wrong (c .before .before .before .before .before .before .before .before .before .if1 .left)) (c .before .before .before .before .before .before .open-wide .ensures) (c .before .before .«open» .ensures)))

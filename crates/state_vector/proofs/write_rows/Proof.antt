@@ -9,6 +9,6 @@ write-rows-spec =
     tie.close
     (tie.spec
     (λ c κs. count-fits _ (c .before .before .before .before .args .buf .now) (c .before .before .before .before .pre .0) (c .before .before .before .before .pre .1))
-    (λ c κs. (c .before .before .before .before .before .before .before .before .pre .0, rows-fit _ _ (c .before .before .before .before .before .before .before .before .pre .0) (c .before .before .before .before .before .before .before .before .pre .1) (c .before .before .before .write-number .ensures)))
+    (λ c κs. let p = c .before .before .before .before .before .before .before .before .pre in (p .0, rows-fit _ _ (p .0) (p .1) (c .before .before .before .write-number .ensures)))
     (λ c. search needs)
-    (λ c. rows-put _ _ (c .before .before .before .before .before .before .before .before .before .before .before .pre .0) (c .before .before .before .before .before .before .before .before .before .before .before .pre .1) (c .before .before .before .before .before .before .write-number .ensures) (c .before .before .write-pairs .ensures)))
+    (λ c. let p = c .before .before .before .before .before .before .before .before .before .before .before .pre in rows-put _ _ (p .0) (p .1) (c .before .before .before .before .before .before .write-number .ensures) (c .before .before .write-pairs .ensures)))

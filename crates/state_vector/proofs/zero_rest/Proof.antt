@@ -22,4 +22,4 @@ zero-rest-spec =
     (λ c κs. search needs)
     (λ c. search needs)
     (λ c. search needs)
-    (λ c. closed (c .before .before .before .before .before .before .before .before .before .before .args .to-clients .now) (c .before .before .before .before .before .before .before .before .before .before .args .to-clocks .now) (c .before .before .before .before .before .before .before .before .before .before .args .k) _ _ (omega arith) (tail-zeroed (c .before .before .before .before .before .before .before .before .before .before .args .k) (c .before .before .before .before .before .before .before .before .before .before .args .to-clients .now) _ (omega arith) (c .before .before .before .before .before .before .zero-wide .ensures)) (tail-zeroed (c .before .before .before .before .before .before .before .before .before .before .args .k) (c .before .before .before .before .before .before .before .before .before .before .args .to-clocks .now) _ (omega arith) (c .before .before .zero .ensures))))
+    (λ c. let a = c .before .before .before .before .before .before .before .before .before .before .args in closed (a .to-clients .now) (a .to-clocks .now) (a .k) _ _ (omega arith) (tail-zeroed (a .k) (a .to-clients .now) _ (omega arith) (c .before .before .before .before .before .before .zero-wide .ensures)) (tail-zeroed (a .k) (a .to-clocks .now) _ (omega arith) (c .before .before .zero .ensures))))
