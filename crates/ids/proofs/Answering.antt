@@ -1,15 +1,15 @@
 -- The answers of the routines that write a table. Assumes nothing.
 use mathlib.Core.Logic.{⊎-elim}
-use mathlib.Core.Path.{_≡_, refl, ap, sym, subst, _∙_}
-use mathlib.Core.Bool.{Bool, true, false}
+use mathlib.Core.Path.{_≡_, refl, ap, ap₂, sym, subst, subst₂, _∙_}
+use mathlib.Core.Bool.{Bool, true, false, _&&_, true≢false}
 use mathlib.Core.List.{List, [], map}
 use Prim.Native.Nat.{ℕ, _≤_, _<_}
 use native.Mathlib.Omega.{arith}
-use lib.Dec.{ltb}
+use lib.Dec.{leb}
 use lib.ListN.{length, length-map}
-use borrow.Author.Tests.{lt-ltb, le-ltb, ltb-true, ltb-false}
+use borrow.Author.Tests.{leb-true, leb-false}
 use Rattle.varint.specs.declared.Refusal.the-variants.{Full, Malformed}
-use Rattle.tables.specs.Answers.{answer, padded, done, full, malformed}
+use Rattle.tables.specs.Answers.{answer, padded, done, full, malformed, Says}
 use Rattle.tables.specs.Inner.Rows as inner
 use Rattle.tables.specs.Inner.Sweep.{Holds}
 use Rattle.tables.specs.declared.Made.{Made}
@@ -19,7 +19,7 @@ use Rattle.tables.proofs.Sets.{Means}
 use Rattle.ids.specs.Rows.{Row, TableOf}
 use Rattle.ids.specs.Rows as ids
 use Rattle.ids.specs.Tables.{Slices, three, held, most, rowsOf, filled, Table, Writes, Captured}
-use Rattle.ids.specs.Inner.{idRow, idRows, Checked, Both, Finished, Picked}
+use Rattle.ids.specs.Inner.{idRow, idRows, IdTable, Checked, Both, Finished, Picked}
 use Rattle.ids.proofs.Numbering.{Fit, fit, length-rows, Narrow}
 use Rattle.ids.proofs.Reading.{gather, gather-rows, combined-right}
 
@@ -37,60 +37,76 @@ filled-alike t a =
       ends = padded (a .three′ i) (map (λ (r : Row). r .end) t);
     }
 
-module _ {ok : Type 0} {right : List Row → Type 0} (o : Slices) {out : Slices} where
-  pub writes-malformed : (ok → ⊥) → out ≡ filled [] o → Writes ok right o out (made.Refused Malformed)
-  writes-malformed n e = malformed n refl e
-
-  pub writes-full : (t : List Row) → ok → right t → most o < length t → out ≡ filled [] o → Writes ok right o out (made.Refused Full)
-  writes-full t p r l e = full t p r l refl e
-
-  pub writes-rows : (t : List Row) (n : ℕ) → ok → right t → n ≡ length t → n ≤ most o → out ≡ filled t o → Writes ok right o out (made.Rows n)
-  writes-rows t n p r q l e = done t p r (omega arith) (ap (λ (k : ℕ). answer 0 k) q) e
-
--- the rows that stay: none, if there is no room for them
-module _ {room k kept : ℕ} (p : Picked (ltb room k) 0 k kept) where
+-- the rows that stay: none, if there is no room for them or the tables were malformed
+module _ (ok : Bool) (room k kept : ℕ) (p : Picked (ok && leb k room) k 0 kept) where
   pub kept-most : kept ≤ room
-  kept-most = ⊎-elim (λ h. omega (arith, p .yes′ (lt-ltb room k h))) (λ h. omega (arith, p .no′ (le-ltb room k h))) (split room k)
+  kept-most = go ok (leb k room) refl p
+    where
+      go : (b t : Bool) → leb k room ≡ t → Picked (b && t) k 0 kept → kept ≤ room
+      go true true e q = omega (arith, q .yes′ refl, leb-true k room e)
+      go true false e q = omega (arith, q .no′ refl)
+      go false t e q = omega (arith, q .no′ refl)
 
-  pub finished-full : {o o′ : Slices} → ltb room k ≡ true → o′ ≡ filled (rowsOf kept (o .clients) (o .starts) (o .ends)) o → Finished room k o o′ (made.Refused Full)
-  finished-full {o} e t =
-      record { done = λ h. absurd (omega (arith, ltb-true room k e)); full = λ _. (refl, t ∙ ap (λ (v : ℕ). filled (rowsOf v (o .clients) (o .starts) (o .ends)) o) (p .yes′ e)) }
+  module _ (o o′ : Slices) (t : o′ ≡ filled (rowsOf kept (o .clients) (o .starts) (o .ends)) o) where
+    stays : (v : ℕ) → kept ≡ v → o′ ≡ filled (rowsOf v (o .clients) (o .starts) (o .ends)) o
+    stays v e = t ∙ ap (λ (v : ℕ). filled (rowsOf v (o .clients) (o .starts) (o .ends)) o) e
 
-  pub finished-done : {o o′ : Slices} → ltb room k ≡ false → o′ ≡ filled (rowsOf kept (o .clients) (o .starts) (o .ends)) o → Finished room k o o′ (made.Rows k)
-  finished-done {o} e t =
-      record { done = λ _. (refl, t ∙ ap (λ (v : ℕ). filled (rowsOf v (o .clients) (o .starts) (o .ends)) o) (p .no′ e)); full = λ h. absurd (omega (arith, ltb-false room k e)) }
+    pub finished-malformed : ok ≡ false → Finished ok room k o o′ (made.Refused Malformed)
+    finished-malformed e =
+        record { done = λ d. absurd (true≢false (sym d ∙ e)); full = λ d. absurd (true≢false (sym d ∙ e)); malformed = λ _. (refl, stays 0 (p .no′ (ap (λ (b : Bool). b && leb k room) e))) }
+
+    pub finished-done : ok ≡ true → leb k room ≡ true → Finished ok room k o o′ (made.Rows k)
+    finished-done e l =
+        record { done = λ _ _. (refl, stays k (p .yes′ (ap₂ _&&_ e l))); full = λ _ h. absurd (omega (arith, leb-true k room l)); malformed = λ d. absurd (true≢false (sym e ∙ d)) }
+
+    pub finished-full : ok ≡ true → leb k room ≡ false → Finished ok room k o o′ (made.Refused Full)
+    finished-full e l =
+        record { done = λ _ h. absurd (omega (arith, leb-false k room l)); full = λ _ _. (refl, stays 0 (p .no′ (ap₂ _&&_ e l))); malformed = λ d. absurd (true≢false (sym e ∙ d)) }
+
+-- the rows that are walked: none, if the tables were malformed
+pub table-or-none : {cs ss es : List ℕ} {n n′ : ℕ} (ok : Bool) → (ok ≡ true → IdTable cs ss es n) → Picked ok n 0 n′ → IdTable cs ss es n′
+table-or-none {cs} {ss} {es} true t p = subst (IdTable cs ss es) (sym (p .yes′ refl)) (t refl)
+table-or-none {cs} {ss} {es} false t p = subst (IdTable cs ss es) (sym (p .no′ refl)) (record { few = omega arith; filled = λ j h. absurd (omega arith); apart = λ j h. absurd (omega arith) })
 
 -- what stood in the output when it was finished
-module _ {ok : Type 0} {right : List Row → Type 0} (o : Slices) {out : Slices} {room : ℕ} (cs ss es : List ℕ) (f : Narrow ss) (g : Narrow es) (a : Alike (three cs ss es) o) (v : room ≡ most o) (k : ℕ) (rs : inner.Rows) where
-  pub finished : {r : Made} → ok → right (map gather rs) → Holds room (idRow cs ss es) k rs → Finished room k (three cs ss es) out r → Writes ok right o out r
-  finished {r} p q h w = ⊎-elim none some (split room k)
+module _ {good : Type 0} {right : List Row → Type 0} (o : Slices) {out : Slices} {room : ℕ} (cs ss es : List ℕ) (f : Narrow ss) (g : Narrow es) (a : Alike (three cs ss es) o) (v : room ≡ most o) (k : ℕ) (rs : inner.Rows) {r : Made} where
+  finished-right : good → right (map gather rs) → Holds room (idRow cs ss es) k rs → Finished true room k (three cs ss es) out r → Writes good right o out r
+  finished-right p q h w = ⊎-elim none some (split room k)
     where
-      none : room < k → Writes ok right o out r
+      none : room < k → Writes good right o out r
       none l =
-          let d = w .full l in
-          subst (λ (x : Made). Writes ok right o out x) (sym (d .0))
-          (writes-full o (map gather rs) p q (omega (arith, h .over l, length-map rs gather)) (d .1 ∙ filled-alike [] a))
+          let d = w .full refl l in
+          subst (λ (x : Made). Writes good right o out x) (sym (d .0))
+          (full (map gather rs) p q (omega (arith, h .over l, length-map rs gather)) refl (d .1 ∙ filled-alike [] a))
 
-      some : k ≤ room → Writes ok right o out r
+      some : k ≤ room → Writes good right o out r
       some l =
-          let d = w .done l in
+          let d = w .done refl l in
           let z : Fit k cs ss es = record { one = omega (arith, a .one); two = omega (arith, a .two); three′ = omega (arith, a .three′) } in
           let e : map gather rs ≡ rowsOf k cs ss es = ap (map gather) (sym (h .kept l)) ∙ gather-rows cs ss es f g k z in
-          subst (λ (x : Made). Writes ok right o out x) (sym (d .0))
-          (writes-rows o (map gather rs) k p q (sym (ap length e ∙ length-rows k cs ss es z)) (omega arith) (d .1 ∙ (filled-alike (rowsOf k cs ss es) a ∙ ap (λ (t : List Row). filled t o) (sym e))))
+          let q′ : k ≡ length (map gather rs) = sym (ap length e ∙ length-rows k cs ss es z) in
+          subst (λ (x : Made). Writes good right o out x) (sym (d .0))
+          (done (map gather rs) p q (omega arith) (ap (λ (k : ℕ). answer 0 k) q′) (d .1 ∙ (filled-alike (rowsOf k cs ss es) a ∙ ap (λ (t : List Row). filled t o) (sym e))))
+
+  pub finished : (ok : Bool) → Says good ok → (ok ≡ true → right (map gather rs)) → (ok ≡ true → Holds room (idRow cs ss es) k rs) → Finished ok room k (three cs ss es) out r → Writes good right o out r
+  finished true s q h w = finished-right (s .right refl) (q refl) (h refl) w
+  finished false s q h w =
+      let d = w .malformed refl in subst (λ (x : Made). Writes good right o out x) (sym (d .0)) (malformed (s .wrong refl) refl (d .1 ∙ filled-alike [] a))
 
 -- a table copied
-pub captured-of : (ac aS ae : List ℕ) (fa : Narrow aS) (ga : Narrow ae) (n : ℕ) (o : Slices) {out : Slices} {b : Bool} {r : Made} {room k : ℕ} (cs ss es : List ℕ)
-    → Checked ac aS ae n b → b ≡ true → Narrow ss → Narrow es → Alike (three cs ss es) o → room ≡ most o
-    → Holds room (idRow cs ss es) k (idRows ac aS ae n) → Finished room k (three cs ss es) out r → Captured (held ac aS ae n) o out r
-captured-of ac aS ae fa ga n o cs ss es t e fs ge a q h w =
-    finished o cs ss es fs ge a q _ _ (t .says .right e) (gather-rows ac aS ae fa ga n (fit n ac aS ae (omega (arith, t .table e .few)))) h w
+pub captured-of : (ac aS ae : List ℕ) (fa : Narrow aS) (ga : Narrow ae) (n : ℕ) (o : Slices) {out : Slices} {ok : Bool} {r : Made} {room k n′ : ℕ} (cs ss es : List ℕ)
+    → Checked ac aS ae n ok → Picked ok n 0 n′ → Narrow ss → Narrow es → Alike (three cs ss es) o → room ≡ most o
+    → Holds room (idRow cs ss es) k (idRows ac aS ae n′) → Finished ok room k (three cs ss es) out r → Captured (held ac aS ae n) o out r
+captured-of ac aS ae fa ga n o {ok = ok} {room = room} {k = k} cs ss es t p fs ge a q h w =
+    finished o cs ss es fs ge a q k (idRows ac aS ae n) ok (t .says) (λ e. gather-rows ac aS ae fa ga n (fit n ac aS ae (omega (arith, t .table e .few))))
+    (λ e. subst (λ (v : ℕ). Holds room (idRow cs ss es) k (idRows ac aS ae v)) (p .yes′ e) h) w
 
 -- two tables combined
 pub made-of : {f : ℕ → ℕ → ℕ} {P : Type 0 → Type 0 → Type 0} (means : Means f P)
-    (ac aS ae : List ℕ) (fa : Narrow aS) (ga : Narrow ae) (n : ℕ) (bc bs be : List ℕ) (fb : Narrow bs) (gb : Narrow be) (m : ℕ) (o : Slices) {out : Slices} {b : Bool} {r : Made} {room k : ℕ} (cs ss es : List ℕ)
-    → Both ac aS ae n bc bs be m b → b ≡ true → Narrow ss → Narrow es → Alike (three cs ss es) o → room ≡ most o
-    → Holds room (idRow cs ss es) k (inner.combined f (idRows ac aS ae n) (idRows bc bs be m)) → Finished room k (three cs ss es) out r
+    (ac aS ae : List ℕ) (fa : Narrow aS) (ga : Narrow ae) (n : ℕ) (bc bs be : List ℕ) (fb : Narrow bs) (gb : Narrow be) (m : ℕ) (o : Slices) {out : Slices} {ok : Bool} {r : Made} {room k n′ m′ : ℕ} (cs ss es : List ℕ)
+    → Both ac aS ae n bc bs be m ok → Picked ok n 0 n′ → (ok ≡ true → m′ ≡ m) → Narrow ss → Narrow es → Alike (three cs ss es) o → room ≡ most o
+    → Holds room (idRow cs ss es) k (inner.combined f (idRows ac aS ae n′) (idRows bc bs be m′)) → Finished ok room k (three cs ss es) out r
     → Writes (Table (held ac aS ae n) × Table (held bc bs be m)) (TableOf (λ c x. P (ids.Holds (rowsOf n ac aS ae) c x) (ids.Holds (rowsOf m bc bs be) c x))) o out r
-made-of means ac aS ae fa ga n bc bs be fb gb m o cs ss es t e fs ge a q h w =
-    finished o cs ss es fs ge a q _ _ (t .says .right e) (combined-right ac aS ae fa ga n (t .one e) bc bs be fb gb m (t .two e) means) h w
+made-of {f} means ac aS ae fa ga n bc bs be fb gb m o {ok = ok} {room = room} {k = k} cs ss es t p z fs ge a q h w =
+    finished o cs ss es fs ge a q k _ ok (t .says) (λ e. combined-right ac aS ae fa ga n (t .one e) bc bs be fb gb m (t .two e) means)
+    (λ e. subst₂ (λ (v w : ℕ). Holds room (idRow cs ss es) k (inner.combined f (idRows ac aS ae v) (idRows bc bs be w))) (p .yes′ e) (z e) h) w

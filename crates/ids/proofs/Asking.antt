@@ -50,12 +50,6 @@ some-rows cs ss es n t h e = h (sym (length-rows n cs ss es (fit n cs ss es (ome
 
 -- ## Clients counted from the last row on
 
-pub fresh-same : {c d : ℕ} → c ≡ d → Fresh c d 0
-fresh-same e = record { same = λ _. refl; other = λ n. absurd (n e) }
-
-pub fresh-other : {c d : ℕ} → (c ≡ d → ⊥) → Fresh c d 1
-fresh-other n = record { same = λ e. absurd (n e); other = λ _. refl }
-
 pub fresh-most : {c d r : ℕ} → Fresh c d r → r ≤ 1
 fresh-most {c} {d} {r} f = go (ℕ-discrete c d)
   where

@@ -1,7 +1,7 @@
 -- An insert finds its place, and lays one row there in the place of those that it meets. Assumes nothing.
 use mathlib.Core.Logic.{_⊎_, ⊎-elim}
 use mathlib.Core.Path.{_≡_, refl, ap, ap₂, sym, subst, _∙_}
-use mathlib.Core.Bool.{true}
+use mathlib.Core.Bool.{Bool}
 use mathlib.Core.List.{List, [], _∷_, _++_}
 use Prim.Native.Nat.{ℕ, zero, suc, _+_, _-_, _≤_, _<_, max, min}
 use native.Mathlib.Omega.{arith}
@@ -18,9 +18,8 @@ use Rattle.tables.proofs.Spanning.{length-span, span-same}
 use Rattle.tables.proofs.Pushing.{piece, row-is}
 use Rattle.tables.proofs.Inserting.{inserted, range-one}
 use Rattle.tables.proofs.Placing.{laid-holds, laid-over}
-use Rattle.tables.proofs.Saying.{says-yes}
-use Rattle.ids.specs.Inner.{numberOf, idRow, idRows, IdTable, Both, Leads, Trails, Shifted, Spliced}
-use Rattle.ids.proofs.Numbering.{Narrow, table-up}
+use Rattle.ids.specs.Inner.{numberOf, idRow, idRows, IdTable, Checked, Both, Leads, Trails, Shifted, Spliced}
+use Rattle.ids.proofs.Numbering.{Narrow}
 
 -- ## Elements copied one by one
 
@@ -156,10 +155,10 @@ pub one-narrow : (s : ℕ) → s < 4294967296 → Narrow (s ∷ [])
 one-narrow s h zero = omega arith
 one-narrow s h (suc j) = omega arith
 
-pub both-one : (cs ss es : List ℕ) (n c s e : ℕ) → Narrow ss → Narrow es → IdTable cs ss es n → s < e → Both cs ss es n (c ∷ []) (s ∷ []) (e ∷ []) 1 true
-both-one cs ss es n c s e f g t h =
+pub both-one : {cs ss es : List ℕ} {n : ℕ} (ok : Bool) (c s e : ℕ) → s < e → Checked cs ss es n ok → Both cs ss es n (c ∷ []) (s ∷ []) (e ∷ []) 1 ok
+both-one ok c s e h t =
     record {
-      says = says-yes (table-up cs ss es f g n t, (lit≤ tt, (h, tt, tt)));
-      one = λ _. t;
+      says = record { right = λ p. (t .says .right p, (lit≤ tt, (h, tt, tt))); wrong = λ p q. t .says .wrong p (q .0) };
+      one = t .table;
       two = λ _. record { few = lit≤ tt; filled = λ j l. subst (λ (v : ℕ). getD (s ∷ []) v 0 < getD (e ∷ []) v 0) (let z : 0 ≡ j = omega arith in z) h; apart = λ j l. absurd (omega arith) };
     }

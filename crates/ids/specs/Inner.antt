@@ -10,7 +10,7 @@ use Rattle.tables.specs.Inner.Rows as inner
 use Rattle.tables.specs.declared.Made.{Made}
 use Rattle.tables.specs.declared.Made.the-variants as made
 use Rattle.tables.specs.Inner.Unite.{Last, Passed, Adds, United}
-use Rattle.varint.specs.declared.Refusal.the-variants.{Full}
+use Rattle.varint.specs.declared.Refusal.the-variants.{Full, Malformed}
 use Rattle.ids.specs.declared.Entry.{Entry}
 use Rattle.ids.specs.declared.Taken.{Taken}
 use Rattle.ids.specs.declared.Added.{Added}
@@ -54,10 +54,11 @@ pub record Both (ac aS ae : List ℕ) (n : ℕ) (bc bs be : List ℕ) (m : ℕ) 
   pub one : r ≡ true → IdTable ac aS ae n
   pub two : r ≡ true → IdTable bc bs be m
 
--- the first k rows that stand in the output become the result, or there is no room for them
-pub record Finished (room k : ℕ) (o o′ : Slices) (r : Made) : Type 0 where
-  pub done : k ≤ room → (r ≡ made.Rows k) × (o′ ≡ filled (rowsOf k (o .clients) (o .starts) (o .ends)) o)
-  pub full : room < k → (r ≡ made.Refused Full) × (o′ ≡ filled [] o)
+-- the first k rows that stand in the output become the result; or there is no room for them, or the tables were malformed
+pub record Finished (ok : Bool) (room k : ℕ) (o o′ : Slices) (r : Made) : Type 0 where
+  pub done : ok ≡ true → k ≤ room → (r ≡ made.Rows k) × (o′ ≡ filled (rowsOf k (o .clients) (o .starts) (o .ends)) o)
+  pub full : ok ≡ true → room < k → (r ≡ made.Refused Full) × (o′ ≡ filled [] o)
+  pub malformed : ok ≡ false → (r ≡ made.Refused Malformed) × (o′ ≡ filled [] o)
 
 -- ## A union, a row a step
 

@@ -90,7 +90,7 @@ fn well_formed(clients: &[u64], starts: &[u32], ends: &[u32], count: usize) -> b
     none_empty(starts, ends, count) & apart(clients, starts, ends, count)
 }
 
-// Whether both tables are well formed.
+// Whether both tables are well formed. Where not, no row of them is looked at again: a routine goes on with none, and `finish` refuses.
 fn both_formed(
     clients: &[u64],
     starts: &[u32],
@@ -136,25 +136,29 @@ fn trim(to_clients: &mut [u64], to_starts: &mut [u32], to_ends: &mut [u32], k: u
     tables::zero(&mut to_ends[k..]);
 }
 
-// Zero behind the `k` rows that were put out, or everywhere if there is no room for them.
+// Zero behind the `k` rows that were put out; or everywhere, if a table is malformed or there is no room for them.
 fn finish(
     to_clients: &mut [u64],
     to_starts: &mut [u32],
     to_ends: &mut [u32],
+    ok: bool,
     most: usize,
     k: usize,
 ) -> tables::Made
     requires { ⌜ most ≤ room (three (now «to_clients») (now «to_starts») (now «to_ends»)) ⌝ }
-    ensures { λ r. ⌜ Finished most k (three (now («to_clients» .entry)) (now («to_starts» .entry)) (now («to_ends» .entry)))
+    ensures { λ r. ⌜ Finished ok most k (three (now («to_clients» .entry)) (now («to_starts» .entry)) (now («to_ends» .entry)))
         (three (now («to_clients» .exit)) (now («to_starts» .exit)) (now («to_ends» .exit))) r ⌝ }
 {
-    let full = most < k;
-    let kept = pick_place(full, 0, k);
+    let fits = k <= most;
+    let kept = pick_place(ok & fits, k, 0);
     trim(to_clients, to_starts, to_ends, kept);
-    if full {
-        return tables::Made::Refused(varint::Refusal::Full);
+    if !ok {
+        return tables::Made::Refused(varint::Refusal::Malformed);
     }
-    tables::Made::Rows(k)
+    if fits {
+        return tables::Made::Rows(k);
+    }
+    tables::Made::Refused(varint::Refusal::Full)
 }
 
 // The elements `a` to `b` of `src`, copied to element `to` on.
@@ -221,22 +225,20 @@ pub fn capture(
         (three (now («to_clients» .entry)) (now («to_starts» .entry)) (now («to_ends» .entry)))
         (three (now («to_clients» .exit)) (now («to_starts» .exit)) (now («to_ends» .exit))) r ⌝ }
 {
-    if !well_formed(clients, starts, ends, count) {
-        trim(to_clients, to_starts, to_ends, 0);
-        return tables::Made::Refused(varint::Refusal::Malformed);
-    }
+    let ok = well_formed(clients, starts, ends, count);
+    let n = pick_place(ok, count, 0);
     let most = most_rows(to_clients.len(), to_starts.len(), to_ends.len());
     let k = copy_rows(
         clients,
         starts,
         ends,
-        count,
+        n,
         to_clients,
         to_starts,
         to_ends,
         most,
     );
-    finish(to_clients, to_starts, to_ends, most, k)
+    finish(to_clients, to_starts, to_ends, ok, most, k)
 }
 
 // A row of a table.
@@ -479,7 +481,7 @@ pub fn merge(
         (three (now («to_clients» .entry)) (now («to_starts» .entry)) (now («to_ends» .entry)))
         (three (now («to_clients» .exit)) (now («to_starts» .exit)) (now («to_ends» .exit))) r ⌝ }
 {
-    if !both_formed(
+    let ok = both_formed(
         clients,
         starts,
         ends,
@@ -488,26 +490,25 @@ pub fn merge(
         b_starts,
         b_ends,
         b_count,
-    ) {
-        trim(to_clients, to_starts, to_ends, 0);
-        return tables::Made::Refused(varint::Refusal::Malformed);
-    }
+    );
+    let n = pick_place(ok, count, 0);
+    let m = pick_place(ok, b_count, 0);
     let most = most_rows(to_clients.len(), to_starts.len(), to_ends.len());
     let k = unite(
         clients,
         starts,
         ends,
-        count,
+        n,
         b_clients,
         b_starts,
         b_ends,
-        b_count,
+        m,
         to_clients,
         to_starts,
         to_ends,
         most,
     );
-    finish(to_clients, to_starts, to_ends, most, k)
+    finish(to_clients, to_starts, to_ends, ok, most, k)
 }
 
 // What a row shares with other places, and what is passed.
@@ -753,7 +754,7 @@ pub fn diff(
         (three (now («to_clients» .entry)) (now («to_starts» .entry)) (now («to_ends» .entry)))
         (three (now («to_clients» .exit)) (now («to_starts» .exit)) (now («to_ends» .exit))) r ⌝ }
 {
-    if !both_formed(
+    let ok = both_formed(
         clients,
         starts,
         ends,
@@ -762,26 +763,25 @@ pub fn diff(
         b_starts,
         b_ends,
         b_count,
-    ) {
-        trim(to_clients, to_starts, to_ends, 0);
-        return tables::Made::Refused(varint::Refusal::Malformed);
-    }
+    );
+    let n = pick_place(ok, count, 0);
+    let m = pick_place(ok, b_count, 0);
     let most = most_rows(to_clients.len(), to_starts.len(), to_ends.len());
     let k = differ(
         clients,
         starts,
         ends,
-        count,
+        n,
         b_clients,
         b_starts,
         b_ends,
-        b_count,
+        m,
         to_clients,
         to_starts,
         to_ends,
         most,
     );
-    finish(to_clients, to_starts, to_ends, most, k)
+    finish(to_clients, to_starts, to_ends, ok, most, k)
 }
 
 // The intersection of two tables.
@@ -803,7 +803,7 @@ pub fn intersect(
         (three (now («to_clients» .entry)) (now («to_starts» .entry)) (now («to_ends» .entry)))
         (three (now («to_clients» .exit)) (now («to_starts» .exit)) (now («to_ends» .exit))) r ⌝ }
 {
-    if !both_formed(
+    let ok = both_formed(
         clients,
         starts,
         ends,
@@ -812,26 +812,25 @@ pub fn intersect(
         b_starts,
         b_ends,
         b_count,
-    ) {
-        trim(to_clients, to_starts, to_ends, 0);
-        return tables::Made::Refused(varint::Refusal::Malformed);
-    }
+    );
+    let n = pick_place(ok, count, 0);
+    let m = pick_place(ok, b_count, 0);
     let most = most_rows(to_clients.len(), to_starts.len(), to_ends.len());
     let k = cross(
         clients,
         starts,
         ends,
-        count,
+        n,
         b_clients,
         b_starts,
         b_ends,
-        b_count,
+        m,
         to_clients,
         to_starts,
         to_ends,
         most,
     );
-    finish(to_clients, to_starts, to_ends, most, k)
+    finish(to_clients, to_starts, to_ends, ok, most, k)
 }
 
 // How many of `n` rows have a mark, start or end, before (c, x), where the first `i` do: each look halves the rows still possible.
@@ -963,16 +962,14 @@ pub fn insert_range(
     if e <= s {
         return capture(clients, starts, ends, count, to_clients, to_starts, to_ends);
     }
-    if !well_formed(clients, starts, ends, count) {
-        trim(to_clients, to_starts, to_ends, 0);
-        return tables::Made::Refused(varint::Refusal::Malformed);
-    }
+    let ok = well_formed(clients, starts, ends, count);
+    let n = pick_place(ok, count, 0);
     let most = most_rows(to_clients.len(), to_starts.len(), to_ends.len());
     let k = put_in(
         clients,
         starts,
         ends,
-        count,
+        n,
         c,
         s,
         e,
@@ -981,7 +978,7 @@ pub fn insert_range(
         to_ends,
         most,
     );
-    finish(to_clients, to_starts, to_ends, most, k)
+    finish(to_clients, to_starts, to_ends, ok, most, k)
 }
 
 // Whether one of the rows lo, .., hi - 1 holds the id: each look halves the rows still possible.
