@@ -10,7 +10,7 @@ ghost use Rattle.tables.specs.Inner.Sweep.{Holds};
 ghost use Rattle.tables.specs.Inner.Unite.{Passed, Counted, Starts, Ends, Last, Adds, United};
 ghost use Rattle.tables.specs.Inner.Cross.{Keeps};
 ghost use Rattle.tables.specs.Inner.Differ.{GapStart, GapEnd};
-ghost use Rattle.tables.specs.Inner.Ends.{Stores, Dropped, Raised, Below, Above, Halves, GapsFrom, GapsTo};
+ghost use Rattle.tables.specs.Inner.Ends.{Stores, Dropped, Raised, Wide, Below, Above, Halves, GapsFrom, GapsTo};
 ghost use Rattle.tables.specs.Inner.Edit.{range, Advanced, Parted, starts, ends, Starting, Ending, Moved, Stands};
 ghost use Rattle.ranges.specs.Tables.{most, Merged, Excluded, Intersected, Inserted, Removed, FromRanges, ContainsClock, FindStart, ClockStart, ClockEnd, Len, IsEmpty, Get};
 ghost use Rattle.ranges.specs.Inner.{rowAt, rowsOf, Ruled, Wrote, Picked};
@@ -716,7 +716,7 @@ fn apart(w: Low, z: High) -> bool
     requires { ⌜ w .i ≤ 2 * rowLimit + 1 ⌝ }
     requires { ⌜ w .j ≤ 2 * rowLimit + 1 ⌝ }
     requires { ⌜ w .k ≤ 2 * rowLimit + 1 ⌝ }
-    ensures { λ r. ⌜ Says ((w .i + 1 < z .u) × (w .j + 1 < z .v) × (w .k + 1 < z .t)) r ⌝ }
+    ensures { λ r. ⌜ Says (Wide (w .i) (w .j) (w .k) (z .u) (z .v) (z .t)) r ⌝ }
 {
     let i = w.i + 1;
     if z.u <= i {
@@ -796,33 +796,6 @@ fn gap_at(b: &[u32], m: usize, j: usize) -> Piece
     }
 }
 
-// The same, where it is not the last: one test less.
-fn gap_low(b: &[u32], m: usize, j: usize) -> Piece
-    requires { ⌜ 2 * m ≤ length (now b) ⌝ }
-    requires { ⌜ j < m ⌝ }
-    ensures { λ r. ⌜ GapStart (rowAt (now (b .entry))) j (r .start) ⌝ }
-    ensures { λ r. ⌜ GapEnd 4294967295 (rowAt (now (b .entry))) m j (r .end) ⌝ }
-{
-    Piece {
-        start: gap_start(b, j),
-        end: start_at(b, j),
-    }
-}
-
-// The same, where it is not the first.
-fn gap_high(b: &[u32], m: usize, j: usize) -> Piece
-    requires { ⌜ 2 * m ≤ length (now b) ⌝ }
-    requires { ⌜ 0 < j ⌝ }
-    requires { ⌜ j ≤ m ⌝ }
-    ensures { λ r. ⌜ GapStart (rowAt (now (b .entry))) j (r .start) ⌝ }
-    ensures { λ r. ⌜ GapEnd 4294967295 (rowAt (now (b .entry))) m j (r .end) ⌝ }
-{
-    Piece {
-        start: end_at(b, j - 1),
-        end: gap_end(b, m, j),
-    }
-}
-
 // The first gap that is not empty: a row that starts at 0 has none before it.
 fn gaps_from(b: &[u32], m: usize) -> usize
     requires { ⌜ 2 * m ≤ length (now b) ⌝ }
@@ -868,8 +841,8 @@ fn differ(a: &[u32], n: usize, b: &[u32], m: usize, out: &mut [u32], most: usize
         t: most,
     };
     while apart(w, z) {
-        w = up(out, z.t, w, row_at(a, w.i), gap_low(b, m, lo + w.j));
-        z = down(out, z, row_at(a, z.u - 1), gap_high(b, m, lo + (z.v - 1)));
+        w = up(out, z.t, w, row_at(a, w.i), gap_at(b, m, lo + w.j));
+        z = down(out, z, row_at(a, z.u - 1), gap_at(b, m, lo + (z.v - 1)));
     }
     while between(w, z) {
         w = up(out, z.t, w, row_at(a, w.i), gap_at(b, m, lo + w.j));

@@ -23,6 +23,12 @@ pub record Raised (x y t r : ℕ) : Type 0 where
   pub new : x < y → r ≡ t - 1
   pub old : y ≤ x → r ≡ t
 
+-- both walks can go on by a row in each table, and there is room for both
+pub record Wide (i j k u v t : ℕ) : Type 0 where
+  pub left : i + 1 < u
+  pub right : j + 1 < v
+  pub room : k + 1 < t
+
 -- A step from below: what the two rows share is laid as row k, and a row that ends first is passed
 pub record Below (room : ℕ) (row : ℕ → Row) (i j k p e q f : ℕ) (row′ : ℕ → Row) (i′ j′ k′ : ℕ) : Type 0 where
   pub one : Passed e (min e f) i i′
