@@ -1,6 +1,5 @@
 use Rattle.ranges.proofs.Moving.{Copied, copied-none, copied-more, copied-rows}
-use lib.ListN.{length, length-set}
-use Prim.Native.Nat.{ℕ, suc, _+_, _-_, _*_, _/_, _≤_, _<_}
+use Prim.Native.Nat.{_-_, _*_, _≤_}
 use native.Mathlib.Omega.{arith}
 use borrow.Author.Needs.{needs}
 use Rattle.ranges.proofs.copy.Statement.{statement}
