@@ -3,23 +3,23 @@ use mathlib.Core.Logic.{_↔_, ⊎-elim}
 use mathlib.Core.Path.{_≡_, refl, ap, sym, subst, _∙_}
 use mathlib.Core.Bool.{Bool, true, false}
 use mathlib.Core.List.{List, [], _∷_, map}
-use mathlib.Core.Option.{Option, none, some, Option·map}
-use Prim.Native.Nat.{ℕ, zero, suc, _+_, _-_, _*_, _/_, _≤_, _<_}
+use mathlib.Core.Option.{none, some, Option·map}
+use Prim.Native.Nat.{ℕ, zero, suc, _+_, _-_, _/_, _≤_, _<_}
 use native.Mathlib.Omega.{arith}
 use borrow.Author.Tests.{lt-ltb, le-ltb}
 use lib.ListN.{length}
 use Rattle.varint.specs.Answer.{noOf}
 use Rattle.varint.specs.declared.Refusal.the-variants.{Malformed}
-use Rattle.tables.specs.Answers.{Answer, answer, Says, Tells, says, refuses}
+use Rattle.tables.specs.Answers.{answer, Says, Tells, says, refuses}
 use Rattle.tables.specs.Inner.Rows as inner
 use Rattle.tables.specs.Inner.Rows.{at, span}
 use Rattle.tables.specs.Inner.Edit.{Parted, ends}
 use Rattle.tables.proofs.Saying.{says-yes, says-no}
 use Rattle.tables.proofs.Finding.{ends-rise, look-right, look-left, look-at, look-empty}
 use Rattle.tables.proofs.Joining.{split}
-use Rattle.ranges.specs.Rows.{Row, row, Holds, findStart, clockStart, clockEnd, get}
+use Rattle.ranges.specs.Rows.{Row, Holds, findStart, clockStart, clockEnd, get}
 use Rattle.ranges.specs.Tables.{rows, Table}
-use Rattle.ranges.specs.Inner.{rowAt, rowsOf, bare, Ruled}
+use Rattle.ranges.specs.Inner.{rowAt, bare, Ruled}
 use Rattle.ranges.proofs.Plain.{plain, holds-plain}
 use Rattle.ranges.proofs.Flat.{rows-plain, length-rows, two-on, ruled-links, ruled-table, table-ruled}
 

@@ -5,7 +5,7 @@ use mathlib.Core.List.{List, [], _∷_}
 use Prim.Native.Nat.{ℕ, zero, suc, _/_, _≤_}
 use native.Mathlib.Omega.{arith}
 use lib.ListN.{length, take}
-use Rattle.tables.specs.Answers.{Answer, Says, Gives, Tells, says, refuses, saidTold, saidCounted}
+use Rattle.tables.specs.Answers.{Answer, Says, Gives, Tells, says, refuses}
 use Rattle.tables.specs.Answers as given
 use Rattle.tables.specs.declared.Made.{Made}
 use Rattle.tables.specs.declared.Told.{Told}
@@ -14,7 +14,7 @@ use Rattle.ranges.specs.declared.Place.{Place}
 use Rattle.ranges.specs.declared.Edge.{Edge}
 use Rattle.ranges.specs.declared.Found.{Found}
 use Rattle.ranges.specs.Rows.{Row, row, Holds, Joined, TableOf, union, difference, intersection, findStart, clockStart, clockEnd, get}
-use Rattle.ranges.specs.Tables.{rows, Table, Writes, Merged, Excluded, Intersected, Inserted, Removed, After, Fills, done, full, malformed, FromRanges, saidPlace, saidEdge, saidFound, ContainsClock, FindStart, ClockStart, ClockEnd, Len, IsEmpty, Get}
+use Rattle.ranges.specs.Tables.{rows, Table, Merged, Excluded, Intersected, Inserted, Removed, After, Fills, done, full, malformed, FromRanges, ContainsClock, FindStart, ClockStart, ClockEnd, Len, IsEmpty, Get}
 
 -- ## The general law: a promise sees its tables x through their rules and their rows
 

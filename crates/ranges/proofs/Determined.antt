@@ -1,14 +1,12 @@
 -- Each public routine's promise determines its answer and every element of the lent memory: any two results that satisfy it coincide. Assumes nothing.
 use mathlib.Core.Path.{_≡_, refl, ap, sym, _∙_}
 use mathlib.Core.Bool.{Bool}
-use mathlib.Core.List.{List, [], _∷_}
+use mathlib.Core.List.{List}
 use mathlib.Core.Option.{Option, none, some}
-use Prim.Native.Nat.{ℕ, _≤_, _<_}
+use Prim.Native.Nat.{ℕ}
 use native.Mathlib.Omega.{arith}
 use lib.ListN.{length}
-use Rattle.varint.specs.declared.Refusal.{Refusal}
-use Rattle.tables.specs.Answers.{Answer, answer, Says, Tells, saidMade, saidTold, saidCounted}
-use Rattle.tables.specs.declared.Clock.{Clock}
+use Rattle.tables.specs.Answers.{Answer, answer, Says, Tells, saidTold}
 use Rattle.tables.specs.declared.Made.{Made}
 use Rattle.tables.specs.declared.Told.{Told}
 use Rattle.tables.specs.declared.Counted.{Counted}
@@ -21,8 +19,8 @@ use Rattle.ranges.specs.declared.Edge.{Edge}
 use Rattle.ranges.specs.declared.Edge.the-variants as edge
 use Rattle.ranges.specs.declared.Found.{Found}
 use Rattle.ranges.specs.declared.Found.the-variants as found
-use Rattle.ranges.specs.Rows.{Row, row, TableOf}
-use Rattle.ranges.specs.Tables.{filled, Writes, Merged, Excluded, Intersected, Inserted, Removed, After, Fills, done, full, malformed, FromRanges, saidPlace, saidEdge, saidFound, ContainsClock, FindStart, ClockStart, ClockEnd, Len, IsEmpty, Get}
+use Rattle.ranges.specs.Rows.{Row, TableOf}
+use Rattle.ranges.specs.Tables.{filled, Writes, Fills, done, full, malformed, FromRanges, saidPlace, saidEdge, saidFound, FindStart, ClockStart, ClockEnd, Len, Get}
 use Rattle.ranges.proofs.Plain.{table-one}
 
 -- ## Routines that write a table

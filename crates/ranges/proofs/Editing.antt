@@ -1,7 +1,7 @@
 -- A table and one range: what was written is the table of the union or the difference. Assumes nothing.
-use mathlib.Core.Path.{_≡_, refl, ap, ap₂, sym, subst, _∙_}
+use mathlib.Core.Path.{_≡_, refl, ap, ap₂, subst, _∙_}
 use mathlib.Core.List.{List, [], _∷_, _++_, map, append-nil}
-use Prim.Native.Nat.{ℕ, zero, suc, _+_, _-_, _/_, _≤_, _<_, min, max}
+use Prim.Native.Nat.{ℕ, _+_, _-_, _/_, _≤_, _<_, min, max}
 use native.Mathlib.Omega.{arith}
 use lib.ListN.{length}
 use Rattle.tables.specs.declared.Made.{Made}
@@ -12,8 +12,8 @@ use Rattle.tables.proofs.Sets.{Means}
 use Rattle.tables.proofs.Spanning.{span-none}
 use Rattle.tables.proofs.Inserting.{inserted, removed, unchanged, and-none, combined-same, range-row}
 use Rattle.ranges.specs.Rows as reader
-use Rattle.ranges.specs.Rows.{Row, row, TableOf}
-use Rattle.ranges.specs.Tables.{rows, most, Table, Writes}
+use Rattle.ranges.specs.Rows.{row, TableOf}
+use Rattle.ranges.specs.Tables.{rows, Table, Writes}
 use Rattle.ranges.specs.Inner.{rowAt, rowsOf, bare, Ruled, Wrote}
 use Rattle.ranges.proofs.Plain.{plain, combined-right}
 use Rattle.ranges.proofs.Flat.{rows-plain, ruled-table}

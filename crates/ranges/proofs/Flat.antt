@@ -1,9 +1,9 @@
 -- Rows laid out in a flat slice: read by their index, read back, and well formed row by row. Assumes nothing.
 use mathlib.Core.Path.{_≡_, refl, ap, ap₂, sym, subst, _∙_}
 use mathlib.Core.List.{List, [], _∷_, _++_, map}
-use Prim.Native.Nat.{ℕ, zero, suc, _+_, _-_, _*_, _/_, _≤_, _<_}
+use Prim.Native.Nat.{ℕ, zero, suc, _+_, _*_, _/_, _≤_, _<_}
 use native.Mathlib.Omega.{arith}
-use lib.ListN.{length, getD, take, replicate}
+use lib.ListN.{length, getD, take}
 use Rattle.tables.specs.Inner.Rows as inner
 use Rattle.tables.specs.Inner.Rows.{span, Follows}
 use Rattle.tables.proofs.Spanning.{Links, unit-links, spanned}
@@ -11,7 +11,7 @@ use Rattle.tables.proofs.Closing.{joined-follows}
 use Rattle.tables.proofs.Pushing.{row-is}
 use Rattle.ranges.specs.Rows.{Row, row, Joined}
 use Rattle.ranges.specs.Tables.{rows, Table, flat}
-use Rattle.ranges.specs.Inner.{rowAt, rowsOf, bare, Ruled}
+use Rattle.ranges.specs.Inner.{rowAt, rowsOf, Ruled}
 use Rattle.ranges.proofs.Plain.{plain, plain-joined, joined-plain}
 
 -- the rows of a slice that begins with one row

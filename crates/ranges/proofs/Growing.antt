@@ -20,9 +20,8 @@ use Rattle.tables.proofs.Sets.{union-means}
 use Rattle.tables.proofs.Pushing.{piece}
 use Rattle.tables.proofs.Inserting.{inserted, unchanged, range-one, unit-union, union-keeps}
 use Rattle.tables.proofs.Placing.{laid-between}
-use Rattle.ranges.specs.Rows.{Row, row, Holds, Joined, TableOf}
-use Rattle.ranges.specs.Rows as reader
-use Rattle.ranges.specs.Tables.{rows, most, Table, filled, After, Fills, done, full, malformed, FromRanges}
+use Rattle.ranges.specs.Rows.{Row, row, Holds, TableOf}
+use Rattle.ranges.specs.Tables.{rows, most, filled, After, done, full, malformed, FromRanges}
 use Rattle.ranges.specs.Inner.{rowAt, rowsOf, bare, Ruled, Wrote}
 use Rattle.ranges.proofs.Plain.{bare-plain, table-one}
 use Rattle.ranges.proofs.Flat.{rows-plain, length-rows, table-ruled}

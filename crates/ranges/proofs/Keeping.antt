@@ -1,6 +1,6 @@
 -- What is kept of the row that stands next, while rows are passed. Assumes nothing.
 use mathlib.Core.Logic.{⊎-elim}
-use mathlib.Core.Path.{_≡_, sym, subst₂}
+use mathlib.Core.Path.{sym, subst₂}
 use Prim.Native.Nat.{ℕ, _+_}
 use Rattle.tables.specs.Inner.Unite.{Passed}
 use Rattle.tables.proofs.Joining.{split}

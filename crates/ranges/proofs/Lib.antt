@@ -10,6 +10,7 @@ pub mod Parts
 pub mod Editing
 pub mod Growing
 pub mod Looking
+pub mod Quarters
 pub mod Asking
 pub mod Determined
 pub mod Below

@@ -1,6 +1,6 @@
 -- A pass over the numbers of a slice says whether its rows are a table. Assumes nothing.
 use mathlib.Core.Logic.{⊎-elim}
-use mathlib.Core.Path.{_≡_, refl, ap, subst₂}
+use mathlib.Core.Path.{_≡_, refl, subst₂}
 use mathlib.Core.Bool.{Bool, true, false, _&&_, true≢false, false≢true}
 use mathlib.Core.List.{List}
 use Prim.Native.Nat.{ℕ, suc, _+_, _-_, _*_, _/_, _%_, _≤_, _<_}
@@ -10,8 +10,7 @@ use lib.ListN.{length, getD}
 use borrow.Author.Tests.{ltb-true, ltb-false}
 use Rattle.tables.specs.Limits.{rowLimit}
 use Rattle.tables.specs.Answers.{Says}
-use Rattle.tables.specs.Inner.Rows.{Follows}
-use Rattle.ranges.specs.Inner.{rowAt, Ruled}
+use Rattle.ranges.specs.Inner.{Ruled}
 use Rattle.tables.proofs.Joining.{split}
 
 -- the numbers before i rise, or the rows are no table

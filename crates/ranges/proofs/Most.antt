@@ -4,7 +4,6 @@ use mathlib.Core.List.{List, map}
 use Prim.Native.Nat.{ℕ, _+_, _≤_}
 use native.Mathlib.Omega.{arith}
 use lib.ListN.{length, length-map}
-use Rattle.tables.specs.Inner.Rows as inner
 use Rattle.tables.specs.Inner.Rows.{combined}
 use Rattle.tables.proofs.Sets.{Means, union-means, difference-means}
 use Rattle.tables.proofs.Counting.{union-rows, difference-rows}

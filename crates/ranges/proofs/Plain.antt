@@ -2,7 +2,7 @@
 use mathlib.Core.Logic.{_⊎_, inl, inr, ⊎-elim, _↔_}
 use mathlib.Core.Path.{_≡_, refl, ap, ap₂, sym, subst, _∙_}
 use mathlib.Core.List.{List, [], _∷_, map}
-use Prim.Native.Nat.{ℕ, zero, suc, _≤_, _<_}
+use Prim.Native.Nat.{ℕ, _≤_, _<_}
 use native.Mathlib.Omega.{arith}
 use Rattle.tables.specs.Inner.Rows as inner
 use Rattle.tables.specs.Inner.Rows.{at, JoinedFrom, combined}
@@ -10,7 +10,7 @@ use Rattle.tables.proofs.Joining.{split, at-here, at-past, at-before, unique}
 use Rattle.tables.proofs.Meaning.{combined-joined, combined-at}
 use Rattle.tables.proofs.Closing.{Units}
 use Rattle.tables.proofs.Sets.{Means, combined-units}
-use Rattle.ranges.specs.Rows.{Row, row, Holds, Joined, TableOf}
+use Rattle.ranges.specs.Rows.{Row, Holds, Joined, TableOf}
 use Rattle.ranges.specs.Inner.{bare}
 
 abbrev pub plain : Row → inner.Row

@@ -1,11 +1,11 @@
 -- Wrong programs that the promises exclude: document 01, "How tight the statements are" and "Errors that tempt". Assumes nothing.
 use mathlib.Core.Logic.{_⊎_, inl, inr, ⊎-elim}
-use mathlib.Core.Path.{_≡_, refl, ap, sym, subst, _∙_}
+use mathlib.Core.Path.{_≡_, refl, ap, subst}
 use mathlib.Core.List.{List, [], _∷_}
-use Prim.Native.Nat.{ℕ, zero, suc, _-_, _≤_, _<_}
+use Prim.Native.Nat.{ℕ, zero, suc, _-_, _<_}
 use native.Mathlib.Omega.{arith}
 use lib.ListN.{length, getD, replicate}
-use Rattle.varint.specs.declared.Refusal.the-variants.{Full, Malformed}
+use Rattle.varint.specs.declared.Refusal.the-variants.{Full}
 use Rattle.tables.specs.Answers.{Answer, answer, Gives, done, full, malformed, says, refuses}
 use Rattle.tables.specs.declared.Made.{Made}
 use Rattle.tables.specs.declared.Made.the-variants as made

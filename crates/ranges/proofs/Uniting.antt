@@ -4,7 +4,7 @@ use mathlib.Core.Path.{_≡_, refl, ap₂, sym, subst, subst₂, _∙_}
 use Prim.Native.Nat.{ℕ, _+_, _-_, _≤_, _<_, max, min}
 use native.Mathlib.Omega.{arith}
 use Rattle.tables.specs.Inner.Rows.{Row}
-use Rattle.tables.specs.Inner.Unite.{Passed, Ended, Adds, Rest, United}
+use Rattle.tables.specs.Inner.Unite.{Passed, Adds, Rest, United}
 use Rattle.tables.proofs.Joining.{split}
 use Rattle.tables.proofs.Spanning.{Links}
 use Rattle.tables.proofs.Uniting.{Side, side, united-more, united-swap}

@@ -1,17 +1,17 @@
 -- What a routine answers and leaves: from the rows that stand in the output to the promise. Assumes nothing.
 use mathlib.Core.Logic.{_⊎_, ⊎-elim}
 use mathlib.Core.Path.{_≡_, refl, ap, ap₂, sym, subst, subst₂, _∙_}
-use mathlib.Core.List.{List, [], _∷_, _++_, map}
+use mathlib.Core.List.{List, [], _++_, map}
 use mathlib.Core.Bool.{Bool, false}
-use Prim.Native.Nat.{ℕ, zero, suc, _-_, _*_, _/_, _≤_, _<_}
+use Prim.Native.Nat.{ℕ, _-_, _*_, _≤_, _<_}
 use native.Mathlib.Omega.{arith}
 use lib.ListN.{length, take, replicate, length-map, length-append, length-replicate}
 use Rattle.varint.specs.declared.Refusal.the-variants.{Full, Malformed}
-use Rattle.tables.specs.Answers.{Gives, done, full, malformed, Says, saidMade}
+use Rattle.tables.specs.Answers.{done, full, malformed, Says, saidMade}
 use Rattle.tables.specs.declared.Made.{Made}
 use Rattle.tables.specs.declared.Made.the-variants as made
 use Rattle.tables.specs.Inner.Rows as inner
-use Rattle.tables.specs.Inner.Rows.{combined, span}
+use Rattle.tables.specs.Inner.Rows.{combined}
 use Rattle.tables.specs.Inner.Sweep.{Holds}
 use Rattle.tables.proofs.Joining.{split}
 use Rattle.tables.proofs.Spanning.{length-span}

@@ -1,5 +1,4 @@
 -- Rows (start, end), the clocks that they hold, and the one table of a set of clocks. Document 01, "Tables" and "Range operations".
-use mathlib.Core.Path.{_≡_}
 use mathlib.Core.Logic.{_⊎_, _↔_}
 use mathlib.Core.List.{List, [], _∷_}
 use mathlib.Core.Bool.{cond}

@@ -1,8 +1,7 @@
 -- Range tables in lent slices, and what each routine promises. Document 01, "Tables", "Refusal numbers" and "Range operations".
 use mathlib.Core.Path.{_≡_}
-use mathlib.Core.Logic.{_⊎_}
 use mathlib.Core.List.{List, [], _∷_, _++_}
-use mathlib.Core.Bool.{Bool, true, false}
+use mathlib.Core.Bool.{false}
 use mathlib.Core.Option.{Option, none, some}
 use Prim.Native.Nat.{ℕ, zero, suc, _-_, _*_, _/_, _≤_, _<_, min}
 use lib.ListN.{length, replicate}
@@ -19,7 +18,7 @@ use Rattle.ranges.specs.declared.Edge.{Edge}
 use Rattle.ranges.specs.declared.Edge.the-variants as edge
 use Rattle.ranges.specs.declared.Found.{Found}
 use Rattle.ranges.specs.declared.Found.the-variants as found
-use Rattle.ranges.specs.Rows.{Row, row, Within, Holds, Joined, TableOf, union, difference, intersection, findStart, clockStart, clockEnd, get}
+use Rattle.ranges.specs.Rows.{Row, row, Holds, Joined, TableOf, union, difference, intersection, findStart, clockStart, clockEnd, get}
 
 -- "kept in a lent u32 slice as start, end, start, end"; "Answers depend only on rows below the count."
 unfoldable pub rows : List ℕ → ℕ → List Row

@@ -194,7 +194,7 @@ fn advance(m: u32, x: u64, half: usize) -> usize
     half * below as usize
 }
 
-// How many rows end below `x`. Each look halves the rows still possible.
+// How many rows end below `x`. Three looks, which wait for no other, leave a quarter of the rows possible; the last few rows are halved.
 fn ends_below(t: &[u32], n: usize, x: u64) -> usize
     requires { ⌜ Ruled (now t) n ⌝ }
     requires { ⌜ x ≤ 4294967296 ⌝ }
@@ -202,6 +202,14 @@ fn ends_below(t: &[u32], n: usize, x: u64) -> usize
 {
     let mut lo: usize = 0;
     let mut len: usize = n;
+    while 3 < len {
+        let q = (len + 1) / 4;
+        let a = advance(end_at(t, lo + (q - 1)), x, q);
+        let b = advance(end_at(t, lo + (2 * q - 1)), x, q);
+        let c = advance(end_at(t, lo + (3 * q - 1)), x, q);
+        lo = lo + a + b + c;
+        len = len - 3 * q;
+    }
     while 0 < len {
         let half = len - len / 2;
         lo = lo + advance(end_at(t, lo + (half - 1)), x, half);
@@ -525,48 +533,7 @@ fn rest(
     k
 }
 
-// The rows of `a` from `i` on and of `b` from `j` on, a row a step.
-fn unite_on(
-    a: &[u32],
-    n: usize,
-    i0: usize,
-    b: &[u32],
-    m: usize,
-    j0: usize,
-    out: &mut [u32],
-    most: usize,
-    k0: usize,
-    e0: u64,
-) -> usize
-    requires { ⌜ Ruled (now a) n ⌝ }
-    requires { ⌜ Ruled (now b) m ⌝ }
-    requires { ⌜ 2 * most ≤ length (now out) ⌝ }
-    requires { ⌜ United 4294967296 (rowAt (now a)) n i0 (rowAt (now b)) m j0 most (rowAt (now out)) k0 e0 ⌝ }
-    ensures { λ r. ⌜ Holds most (rowAt (now (out .exit))) r (combined union (rowsOf (now (a .entry)) n) (rowsOf (now (b .entry)) m)) ⌝ }
-{
-    let mut i = i0;
-    let mut j = j0;
-    let mut k = k0;
-    let mut e = e0;
-    while i < n {
-        if m <= j {
-            return rest(a, n, i, b, m, out, most, k, e);
-        }
-        let p = start_at(a, i);
-        let q = start_at(b, j);
-        let s = end_at(a, i);
-        let t = end_at(b, j);
-        let x = lower(p, q);
-        let y = first(p, q, s, t);
-        i = passed(i, p, x);
-        j = waited(j, p, q);
-        k = join(out, most, k, e, x, y);
-        e = further(e, y);
-    }
-    rest(b, m, j, a, n, out, most, k, e)
-}
-
-// The rows of the union, as many as there is room for, and how many there are. While both tables have a row after this one, its start is read ahead.
+// The rows of the union, a row a step, as many as there is room for, and how many there are.
 fn unite(a: &[u32], n: usize, b: &[u32], m: usize, out: &mut [u32], most: usize) -> usize
     requires { ⌜ Ruled (now a) n ⌝ }
     requires { ⌜ Ruled (now b) m ⌝ }
@@ -579,9 +546,9 @@ fn unite(a: &[u32], n: usize, b: &[u32], m: usize, out: &mut [u32], most: usize)
     let mut e: u64 = 0;
     let mut p = start_or(a, n, 0, 0);
     let mut q = start_or(b, m, 0, 0);
-    while i + 1 < n {
-        if m <= j + 1 {
-            return unite_on(a, n, i, b, m, j, out, most, k, e);
+    while i < n {
+        if m <= j {
+            return rest(a, n, i, b, m, out, most, k, e);
         }
         let u = start_or(a, n, i + 1, 0);
         let v = start_or(b, m, j + 1, 0);
@@ -597,7 +564,7 @@ fn unite(a: &[u32], n: usize, b: &[u32], m: usize, out: &mut [u32], most: usize)
         p = onward(p, x, u);
         q = w;
     }
-    unite_on(a, n, i, b, m, j, out, most, k, e)
+    rest(b, m, j, a, n, out, most, k, e)
 }
 
 // Union.

@@ -1,7 +1,6 @@
 use Rattle.tables.proofs.Copying.{Copied, copied-none, copied-more}
 use Rattle.ranges.proofs.Moving.{copied-rows}
-use lib.ListN.{length, length-set}
-use Prim.Native.Nat.{ℕ, suc, _+_, _-_, _*_, _/_, _≤_, _<_}
+use Prim.Native.Nat.{_-_, _*_, _≤_}
 use native.Mathlib.Omega.{arith}
 use borrow.Author.Needs.{needs}
 use Rattle.ranges.proofs.copy.Statement.{statement}

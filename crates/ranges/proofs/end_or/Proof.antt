@@ -1,8 +1,7 @@
-use mathlib.Core.Path.{_≡_, refl, ap, sym, subst, _∙_}
-use Prim.Native.Nat.{ℕ, suc, _+_, _-_, _*_, _/_, _≤_, _<_}
+use mathlib.Core.Path.{ap, _∙_}
+use Prim.Native.Nat.{ℕ}
 use native.Mathlib.Omega.{arith}
 use Rattle.ranges.specs.Inner.{rowAt}
-use Rattle.tables.specs.Inner.Rows.{Row}
 use borrow.Author.Needs.{needs}
 use Rattle.ranges.proofs.end_or.Statement.{statement}
 use Rattle.ranges.proofs.end_or.Tie as tie

@@ -1,5 +1,5 @@
 use native.Mathlib.Omega.{arith}
-use lib.ListN.{length, length-set}
+use lib.ListN.{length-set}
 use Rattle.tables.proofs.Inserting.{parted-from}
 use Rattle.ranges.proofs.Editing.{ruled-plain}
 use Rattle.ranges.proofs.Growing.{grown-same, grown-over, grown-rows}

@@ -1,7 +1,4 @@
-use mathlib.Core.Path.{ap, sym, refl, _∙_}
 use mathlib.Core.Bool.{true, false}
-use mathlib.Core.Option.{none, some}
-use native.Mathlib.Omega.{arith}
 use borrow.Author.Tests.{not-true, not-false}
 use Rattle.ranges.proofs.Asking.{refused, told, empty-yes, empty-no}
 use borrow.Author.Needs.{needs}

@@ -1,5 +1,4 @@
 use mathlib.Core.Path.{refl}
-use native.Mathlib.Omega.{arith}
 use Rattle.tables.proofs.Uniting.{adds, counted-some}
 use borrow.Author.Needs.{needs}
 use Rattle.ranges.proofs.join.Statement.{statement}

@@ -1,8 +1,6 @@
 use Rattle.ranges.proofs.Moving.{Raised, raised-none, raised-more, raised-rows}
-use mathlib.Core.Path.{_≡_, refl}
-use Prim.Native.Nat.{ℕ, suc, _+_, _-_, _*_, _/_, _≤_, _<_}
+use Prim.Native.Nat.{_*_, _≤_}
 use native.Mathlib.Omega.{arith}
-use lib.ListN.{length, length-set}
 use borrow.Author.Needs.{needs}
 use Rattle.ranges.proofs.move_up.Statement.{statement}
 use Rattle.ranges.proofs.move_up.Tie as tie

@@ -1,6 +1,6 @@
 use Rattle.ranges.proofs.Moving.{size-one, stands-none, stands-one}
-use lib.ListN.{length, length-set}
-use Prim.Native.Nat.{ℕ, suc, _+_, _-_, _*_, _/_, _≤_, _<_}
+use lib.ListN.{length-set}
+use Prim.Native.Nat.{_<_}
 use native.Mathlib.Omega.{arith}
 use borrow.Author.Needs.{needs}
 use Rattle.ranges.proofs.put.Statement.{statement}

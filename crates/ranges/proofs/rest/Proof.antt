@@ -1,12 +1,11 @@
 use Rattle.tables.proofs.Uniting.{united-rest, rest-all}
 use Rattle.tables.specs.Inner.Unite.{United}
 use Rattle.ranges.specs.Inner.{rowAt}
-use mathlib.Core.Path.{sym, ap}
 use Rattle.ranges.proofs.Flat.{ruled-links}
-use lib.ListN.{length, length-set}
+use lib.ListN.{length}
 use native.Mathlib.Omega.{arith}
 use mathlib.Core.Path.{_≡_, _∙_, refl}
-use Prim.Native.Nat.{ℕ, _<_, _≤_, _-_, _+_, _*_}
+use Prim.Native.Nat.{_-_}
 use borrow.Author.Needs.{needs}
 use Rattle.ranges.proofs.rest.Statement.{statement}
 use Rattle.ranges.proofs.rest.Tie as tie

@@ -1,7 +1,6 @@
 use Rattle.ranges.proofs.Moving.{size-one, size-none}
-use mathlib.Core.Path.{_≡_, refl, ap, sym, subst, _∙_}
+use mathlib.Core.Path.{sym}
 use native.Mathlib.Omega.{arith}
-use borrow.Author.Needs.{needs}
 use Rattle.ranges.proofs.size.Statement.{statement}
 use Rattle.ranges.proofs.size.Tie as tie
 use Rattle.ranges.proofs.size.Reads as reads

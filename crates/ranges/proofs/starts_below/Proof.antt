@@ -1,7 +1,7 @@
-use Prim.Native.Nat.{ℕ, suc, _+_, _-_, _*_, _/_, _≤_, _<_}
+use Prim.Native.Nat.{_+_, _-_, _/_, _≤_}
 use native.Mathlib.Omega.{arith}
 use Rattle.tables.specs.Inner.Edit.{Parted, starts}
-use Rattle.tables.proofs.Inserting.{parted-half, advanced-at, advanced-most, starts-rising, parted-met, parted-left, parted-right, parted-all, parted-to}
+use Rattle.tables.proofs.Inserting.{parted-half, advanced-at, advanced-most, starts-rising, parted-met, parted-left, parted-right, parted-to}
 use Rattle.ranges.specs.Inner.{rowAt}
 use Rattle.ranges.proofs.Editing.{ruled-plain}
 use borrow.Author.Needs.{needs}

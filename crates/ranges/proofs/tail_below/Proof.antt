@@ -1,7 +1,6 @@
 use Rattle.tables.proofs.Inserting.{parted-at}
-use Prim.Native.Nat.{ℕ, suc, _+_, _-_, _*_, _/_, _≤_, _<_}
+use Prim.Native.Nat.{_-_}
 use native.Mathlib.Omega.{arith}
-use lib.ListN.{length, length-set}
 use borrow.Author.Needs.{needs}
 use Rattle.ranges.proofs.tail_below.Statement.{statement}
 use Rattle.ranges.proofs.tail_below.Tie as tie

@@ -5,7 +5,8 @@ use lib.ListN.{length}
 use borrow.Author.Needs.{needs}
 use Rattle.tables.specs.Inner.Unite.{United}
 use Rattle.tables.specs.Inner.Edit.{Starting}
-use Rattle.tables.proofs.Uniting.{united-none, less-left}
+use Rattle.tables.proofs.Uniting.{united-none, less-left, rest-left, rest-right, holds-other}
+use Rattle.tables.proofs.Merging.{union-comm}
 use Rattle.ranges.proofs.Uniting.{first-at, first-fills, first-moves, united-first}
 use Rattle.ranges.specs.Inner.{rowAt}
 use Rattle.ranges.proofs.Flat.{ruled-links}
@@ -23,7 +24,7 @@ use Rattle.ranges.proofs.lower.Reads as lower-reads
 use Rattle.ranges.proofs.onward.Reads as onward-reads
 use Rattle.ranges.proofs.passed.Reads as passed-reads
 use Rattle.ranges.proofs.start_or.Reads as start-or-reads
-use Rattle.ranges.proofs.unite_on.Reads as unite-on-reads
+use Rattle.ranges.proofs.rest.Reads as rest-reads
 
 abbrev Inv-loop : tie.InvT-loop
 Inv-loop a n b m out₀ most i₀ j₀ k₀ e₀ p₀ q₀ out i j k e p q = (length out ≡ length out₀) × United 4294967296 (rowAt a) n i (rowAt b) m j most (rowAt out) k e × Starting (rowAt a) n i 0 p × Starting (rowAt b) m j 0 q
@@ -40,14 +41,8 @@ start-or-requires-2 c κs = search needs
 loop-holds : tie.Need-loop-holds Inv-loop μ-loop
 loop-holds c = (refl, united-none _ _ _ _ _ _ _, c .before .start-or .ensures, c .start-or2 .ensures)
 
-add-loop : tie.Need-add-loop Inv-loop μ-loop
-add-loop c = search needs
-
-add-if1 : tie.Need-add-if1 Inv-loop μ-loop
-add-if1 c = search needs
-
-unite-on-requires : tie.Need-unite-on-requires Inv-loop μ-loop
-unite-on-requires c κs = let l = c .before .before .before in let s = l .before .before .before .before .before .before in (s .pre .0, (s .pre .1 .0, (omega (arith, l .loop .inv .0, s .pre .1 .1), l .loop .inv .1)))
+rest-requires : tie.Need-rest-requires Inv-loop μ-loop
+rest-requires c κs = let l = c .before .before .before in let s = l .before .before .before .before .before .before in (s .pre .0, (s .pre .1 .0, (omega (arith, l .loop .inv .0, s .pre .1 .1), rest-right (c .before .if1 .taken) (l .loop .inv .1))))
 
 same-length : tie.Need-same-length Inv-loop μ-loop
 same-length c = search needs
@@ -90,8 +85,8 @@ join-requires c κs =
     let h = c .before in
     let l = h .before .before .before .before .before .before .before .before .before .before in
     let s = l .before .before .before .before .before .before in
-    let i : l .loop .i < s .args .n = omega (arith, h .before .before .before .before .before .before .before .before .before .loop-test .taken) in
-    let j : l .loop .j < s .args .m = omega (arith, h .before .before .before .before .before .before .before .before .if1 .left) in (
+    let i = h .before .before .before .before .before .before .before .before .before .loop-test .taken in
+    let j = h .before .before .before .before .before .before .before .before .if1 .left in (
       omega (arith, l .loop .inv .0, s .pre .1 .1),
       (
         l .loop .inv .1 .last,
@@ -119,8 +114,8 @@ loop-less c =
     let h = c .before .before .before .before .before .before .before in
     let l = h .before .before .before .before .before .before .before .before .before .before in
     let s = l .before .before .before .before .before .before in
-    let i : l .loop .i < s .args .n = omega (arith, h .before .before .before .before .before .before .before .before .before .loop-test .taken) in
-    let j : l .loop .j < s .args .m = omega (arith, h .before .before .before .before .before .before .before .before .if1 .left) in
+    let i = h .before .before .before .before .before .before .before .before .before .loop-test .taken in
+    let j = h .before .before .before .before .before .before .before .before .if1 .left in
     less-left _ _ _ _ _ _ (l .loop .inv .1 .one .within) (l .loop .inv .1 .two .within) i (first-moves (first-at (l .loop .inv .2 .here i) (l .loop .inv .3 .here j) (h .before .before .before .before .before .end-at .ensures) (h .before .before .before .before .end-at2 .ensures) (h .before .before .before .lower .ensures) (h .before .before .first .ensures) (h .before .passed .ensures) (h .waited .ensures)))
 
 loop-again : tie.Need-loop-again Inv-loop μ-loop
@@ -128,22 +123,22 @@ loop-again c =
     let h = c .before .before .before .before .before .before .before in
     let l = h .before .before .before .before .before .before .before .before .before .before in
     let s = l .before .before .before .before .before .before in
-    let i : l .loop .i < s .args .n = omega (arith, h .before .before .before .before .before .before .before .before .before .loop-test .taken) in
-    let j : l .loop .j < s .args .m = omega (arith, h .before .before .before .before .before .before .before .before .if1 .left) in (
+    let i = h .before .before .before .before .before .before .before .before .before .loop-test .taken in
+    let j = h .before .before .before .before .before .before .before .before .if1 .left in (
       c .before .before .before .before .before .join .kept .0 ∙ l .loop .inv .0,
       united-first _ _ _ _ _ _ (λ _. refl) (λ _. refl) (ruled-links (s .pre .0)) (ruled-links (s .pre .1 .0)) _ _ _ _ _ _ _ _ _ _ _ _ i j (first-at (l .loop .inv .2 .here i) (l .loop .inv .3 .here j) (h .before .before .before .before .before .end-at .ensures) (h .before .before .before .before .end-at2 .ensures) (h .before .before .before .lower .ensures) (h .before .before .first .ensures) (h .before .passed .ensures) (h .waited .ensures)) (l .loop .inv .1) (c .before .before .before .before .before .join .ensures) (omega (arith, h .before .before .first .ok)) (c .before .before .further .ensures),
       onward-passed (λ (i p : ℕ). Starting (rowAt (s .args .a .now)) (s .args .n) i 0 p) (l .loop .inv .2) (h .before .before .before .before .before .before .before .start-or3 .ensures) (h .before .passed .ensures) (c .onward .ensures),
       picked-both (λ (j q : ℕ). Starting (rowAt (s .args .b .now)) (s .args .m) j 0 q) (l .loop .inv .3) (h .before .before .before .before .before .before .start-or4 .ensures) (h .waited .ensures) (c .before .first2 .ensures),
     )
 
-unite-on-requires-2 : tie.Need-unite-on-requires-2 Inv-loop μ-loop
-unite-on-requires-2 c κs = let l = c .before .before in let s = l .before .before .before .before .before .before in (s .pre .0, (s .pre .1 .0, (omega (arith, l .loop .inv .0, s .pre .1 .1), l .loop .inv .1)))
+rest-requires-2 : tie.Need-rest-requires-2 Inv-loop μ-loop
+rest-requires-2 c κs = let l = c .before .before in let s = l .before .before .before .before .before .before in (s .pre .1 .0, (s .pre .0, (omega (arith, l .loop .inv .0, s .pre .1 .1), rest-left (c .before .loop-test .left) (l .loop .inv .1))))
 
 same-length-2 : tie.Need-same-length-2 Inv-loop μ-loop
 same-length-2 c = search needs
 
 returns-2 : tie.Need-returns-2 Inv-loop μ-loop
-returns-2 c = search needs
+returns-2 c = holds-other (union-comm _ _) (c .before .before .rest2 .ensures)
 
 pub unite-spec : {M : Type 1} → statement M
 unite-spec =
@@ -154,9 +149,7 @@ unite-spec =
     start-or-requires
     start-or-requires-2
     loop-holds
-    add-loop
-    add-if1
-    unite-on-requires
+    rest-requires
     same-length
     returns
     add-start-or
@@ -175,6 +168,6 @@ unite-spec =
     onward-requires
     loop-less
     loop-again
-    unite-on-requires-2
+    rest-requires-2
     same-length-2
     returns-2)

@@ -1,5 +1,4 @@
-use Prim.Native.Nat.{_-_, _*_}
-use mathlib.Core.Path.{_≡_, refl}
+use Prim.Native.Nat.{_-_}
 use Rattle.tables.proofs.Saying.{says-no}
 use native.Mathlib.Omega.{arith}
 use Rattle.ranges.proofs.Looking.{Looked, looked-none, looked-more, looked-all}
