@@ -52,7 +52,10 @@ same-length-2 : tie.Need-same-length-2 Inv-loop μ-loop
 same-length-2 c = c .before .before .zero2 .kept .0 ∙ (c .before .before .before .before .before .before .before .grow .kept .0 ∙ c .before .before .before .before .before .before .before .before .before .before .before .before .loop .inv .1 .same)
 
 returns-2 : tie.Need-returns-2 Inv-loop μ-loop
-returns-2 c = grown-full (c .before .before .before .before .before .before .before .before .before .before .before .before .loop .inv .1) (c .before .before .before .before .before .before .before .grow .last .0) (omega (arith, c .before .before .before .before .before .before .before .before .before .before .before .before .loop .inv .0)) (c .before .before .before .before .before .before .before .before .before .start-at .ensures) (c .before .before .before .before .before .before .before .before .end-at .ensures) (c .before .before .before .before .before .before .before .grow .ensures) _ (omega arith) (omega (arith, c .before .before .before .before .before .before .before .before .before .before .before .before .loop .inv .0)) (omega (arith, c .before .before .before .before .before .before .before .before .before .before .before .before .before .room .ensures)) (c .before .before .zero2 .ensures ∙ ap (λ (m : ℕ). replicate m 0) (c .before .before .before .before .before .before .before .grow .kept .0 ∙ c .before .before .before .before .before .before .before .before .before .before .before .before .loop .inv .1 .same))
+returns-2 c =
+    let d = c .before .before .before .before .before .before .before in
+    let l = d .before .before .before .before .before in
+    grown-full (l .loop .inv .1) (d .grow .last .0) (omega (arith, l .loop .inv .0)) (d .before .before .start-at .ensures) (d .before .end-at .ensures) (d .grow .ensures) _ (omega arith) (omega (arith, l .loop .inv .0)) (omega (arith, l .before .room .ensures)) (c .before .before .zero2 .ensures ∙ ap (λ (m : ℕ). replicate m 0) (d .grow .kept .0 ∙ l .loop .inv .1 .same))
 
 add-i : tie.Need-add-i Inv-loop μ-loop
 add-i c = search needs
@@ -61,7 +64,10 @@ loop-less : tie.Need-loop-less Inv-loop μ-loop
 loop-less c = search needs
 
 loop-again : tie.Need-loop-again Inv-loop μ-loop
-loop-again c = ((omega arith, omega (arith, c .before .before .before .before .before .before .before .before .loop .inv .0)), grown-more (c .before .before .before .before .before .before .before .before .loop .inv .1) (c .before .before .before .grow .last .0) (omega (arith, c .before .before .before .before .before .before .before .before .loop .inv .0)) (c .before .before .before .before .before .start-at .ensures) (c .before .before .before .before .end-at .ensures) (c .before .before .before .grow .ensures) (c .before .before .before .grow .kept .0) (omega (arith, c .before .before .before .before .before .before .before .before .before .room .ensures)))
+loop-again c =
+    let d = c .before .before .before in
+    let l = d .before .before .before .before .before in
+    ((omega arith, omega (arith, l .loop .inv .0)), grown-more (l .loop .inv .1) (d .grow .last .0) (omega (arith, l .loop .inv .0)) (d .before .before .start-at .ensures) (d .before .end-at .ensures) (d .grow .ensures) (d .grow .kept .0) (omega (arith, l .before .room .ensures)))
 
 finish-requires : tie.Need-finish-requires Inv-loop μ-loop
 finish-requires c κs = search needs

@@ -57,7 +57,9 @@ same-length : tie.Need-same-length
 same-length c = search needs
 
 returns-2 : tie.Need-returns-2
-returns-2 c = grown-over (c .before .before .before .before .before .before .before .before .before .before .before .before .before .before .pre) (c .before .before .before .before .before .lower .ensures) (c .before .before .higher .ensures) (omega arith) (c .before .before .before .before .before .before .before .before .starts-below .ensures .1) (c .before .before .before .before .before .before .before .before .before .before .tail-below .ensures) (c .before .before .before .before .before .before .before .before .starts-below .ensures .0) (c .before .before .before .before .before .before .start-or .ensures) (c .before .before .before .end-or .ensures) _ (omega (arith, c .before .room .ensures))
+returns-2 c =
+    let d = c .before .before .before .before .before .before .before .before in
+    grown-over (d .before .before .before .before .before .before .pre) (c .before .before .before .before .before .lower .ensures) (c .before .before .higher .ensures) (omega arith) (d .starts-below .ensures .1) (d .before .before .tail-below .ensures) (d .starts-below .ensures .0) (c .before .before .before .before .before .before .start-or .ensures) (c .before .before .before .end-or .ensures) _ (omega (arith, c .before .room .ensures))
 
 shift-requires : tie.Need-shift-requires
 shift-requires c κs = search needs
@@ -87,7 +89,10 @@ same-length-2 : tie.Need-same-length-2
 same-length-2 c = search needs
 
 returns-3 : tie.Need-returns-3
-returns-3 c = grown-rows (c .before .before .before .before .before .before .before .before .before .before .before .before .before .before .before .before .before .before .pre) (c .before .before .before .before .before .before .before .before .before .lower .ensures) (c .before .before .before .before .before .before .higher .ensures) (omega arith) (c .before .before .before .before .before .before .before .before .before .before .before .before .starts-below .ensures .1) (c .before .before .before .before .before .before .before .before .before .before .before .before .before .before .tail-below .ensures) (c .before .before .before .before .before .before .before .before .before .before .before .before .starts-below .ensures .0) (c .before .before .before .before .before .before .before .before .before .before .start-or .ensures) (c .before .before .before .before .before .before .before .end-or .ensures) (c .before .before .shift .last .0) (c .before .before .shift .ensures) (omega (arith, c .before .before .before .before .before .room .ensures, c .before .before .shift .kept .0)) (omega (arith, c .before .before .before .before .before .room .ensures))
+returns-3 c =
+    let d = c .before .before .before .before .before in
+    let d′ = d .before .before .before .before .before .before .before in
+    grown-rows (d′ .before .before .before .before .before .before .pre) (d .before .before .before .before .lower .ensures) (d .before .higher .ensures) (omega arith) (d′ .starts-below .ensures .1) (d′ .before .before .tail-below .ensures) (d′ .starts-below .ensures .0) (d .before .before .before .before .before .start-or .ensures) (d .before .before .end-or .ensures) (c .before .before .shift .last .0) (c .before .before .shift .ensures) (omega (arith, d .room .ensures, c .before .before .shift .kept .0)) (omega (arith, d .room .ensures))
 
 pub grow-spec : {M : Type 1} → statement M
 grow-spec =

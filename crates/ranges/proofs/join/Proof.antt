@@ -35,7 +35,9 @@ same-length : tie.Need-same-length
 same-length c = search needs
 
 returns : tie.Need-returns
-returns c = adds _ _ _ _ (λ _. refl) _ _ _ _ _ _ (c .before .before .before .before .before .before .before .before .before .before .before .pre .1 .1 .1 .1) (c .before .before .before .before .before .before .before .before .before .before .before .pre .1 .0) (c .before .before .before .before .before .before .before .before .store-start .ensures) (c .before .before .before .before .before .counted .ensures) (c .before .before .before .before .further .ensures) (c .before .before .store-end .ensures)
+returns c =
+    let s = c .before .before .before .before .before .before .before .before .before .before .before in
+    adds _ _ _ _ (λ _. refl) _ _ _ _ _ _ (s .pre .1 .1 .1 .1) (s .pre .1 .0) (c .before .before .before .before .before .before .before .before .store-start .ensures) (c .before .before .before .before .before .counted .ensures) (c .before .before .before .before .further .ensures) (c .before .before .store-end .ensures)
 
 pub join-spec : {M : Type 1} → statement M
 join-spec =

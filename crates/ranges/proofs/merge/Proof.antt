@@ -38,7 +38,9 @@ same-length-2 : tie.Need-same-length-2
 same-length-2 c = search needs
 
 returns-2 : tie.Need-returns-2
-returns-2 c = finished union-means _ (c .before .before .before .before .before .before .unite .last .1 .1 .1 .1 .0) (c .before .before .before .before .before .before .before .before .before .before .both .ensures .right (not-false _ (c .before .before .before .before .before .before .before .before .before .if1 .left))) (c .before .before .before .before .before .before .before .before .room .ensures) (c .before .before .before .before .before .before .unite .kept .1 .1 .1 .1 .0) (c .before .before .before .before .before .before .unite .ensures) (c .before .before .finish .ensures)
+returns-2 c =
+    let d = c .before .before .before .before .before .before in
+    finished union-means _ (d .unite .last .1 .1 .1 .1 .0) (d .before .before .before .before .both .ensures .right (not-false _ (d .before .before .before .if1 .left))) (d .before .before .room .ensures) (d .unite .kept .1 .1 .1 .1 .0) (d .unite .ensures) (c .before .before .finish .ensures)
 
 pub merge-spec : {M : Type 1} → statement M
 merge-spec =

@@ -38,7 +38,11 @@ same-length-2 : tie.Need-same-length-2
 same-length-2 c = search needs
 
 returns-2 : tie.Need-returns-2
-returns-2 c = gives-edited (c .before .before .before .before .before .before .before .before .before .args .start .0) (c .before .before .before .before .before .before .before .before .before .args .end .0) difference-means (c .before .before .before .before .before .before .well-formed .ensures .right (not-false _ (c .before .before .before .before .before .if1 .left))) (same-rows (c .before .before .before .before .before .before .well-formed .ensures .right (not-false _ (c .before .before .before .before .before .if1 .left))) difference unit-difference difference-keeps (c .before .before .before .before .before .before .before .before .before .args .start .0) (c .before .before .before .before .before .before .before .before .before .args .end .0) (omega arith)) (c .before .before .splice .ensures)
+returns-2 c =
+    let d = c .before .before .before .before .before in
+    let d′ = d .before in
+    let s = d′ .before .before .before in
+    gives-edited (s .args .start .0) (s .args .end .0) difference-means (d′ .well-formed .ensures .right (not-false _ (d .if1 .left))) (same-rows (d′ .well-formed .ensures .right (not-false _ (d .if1 .left))) difference unit-difference difference-keeps (s .args .start .0) (s .args .end .0) (omega arith)) (c .before .before .splice .ensures)
 
 cast-ends-below : tie.Need-cast-ends-below
 cast-ends-below c = search needs
@@ -53,7 +57,9 @@ cast-starts-below : tie.Need-cast-starts-below
 cast-starts-below c = search needs
 
 starts-below-requires : tie.Need-starts-below-requires
-starts-below-requires c κs = (c .before .before .before .well-formed .ensures .right (not-false _ (c .before .before .if1 .left)), (omega arith, parted-from _ (ruled-plain (c .before .before .before .well-formed .ensures .right (not-false _ (c .before .before .if1 .left)))) (c .ends-below .ensures) (omega arith)))
+starts-below-requires c κs =
+    let d = c .before .before .before in
+    (d .well-formed .ensures .right (not-false _ (c .before .before .if1 .left)), (omega arith, parted-from _ (ruled-plain (d .well-formed .ensures .right (not-false _ (c .before .before .if1 .left)))) (c .ends-below .ensures) (omega arith)))
 
 start-or-requires : tie.Need-start-or-requires
 start-or-requires c κs = omega (arith, c .before .before .before .before .well-formed .ensures .right (not-false _ (c .before .before .before .if1 .left)) .fits)
@@ -62,13 +68,20 @@ end-or-requires : tie.Need-end-or-requires
 end-or-requires c κs = omega (arith, c .before .before .before .before .before .well-formed .ensures .right (not-false _ (c .before .before .before .before .if1 .left)) .fits, c .before .starts-below .ensures .0 .within)
 
 splice-requires-2 : tie.Need-splice-requires-2
-splice-requires-2 c κs = (omega (arith, c .before .before .before .before .before .before .before .well-formed .ensures .right (not-false _ (c .before .before .before .before .before .before .if1 .left)) .fits), (omega (arith, c .before .before .before .starts-below .ensures .1), c .before .before .before .starts-below .ensures .0 .within))
+splice-requires-2 c κs =
+    let d = c .before .before .before in
+    (omega (arith, d .before .before .before .before .well-formed .ensures .right (not-false _ (d .before .before .before .if1 .left)) .fits), (omega (arith, d .starts-below .ensures .1), d .starts-below .ensures .0 .within))
 
 same-length-3 : tie.Need-same-length-3
 same-length-3 c = search needs
 
 returns-3 : tie.Need-returns-3
-returns-3 c = gives-edited (c .before .before .before .before .before .before .before .before .before .before .before .before .before .args .start .0) (c .before .before .before .before .before .before .before .before .before .before .before .before .before .args .end .0) difference-means (c .before .before .before .before .before .before .before .before .before .before .well-formed .ensures .right (not-false _ (c .before .before .before .before .before .before .before .before .before .if1 .left))) (removed-rows (c .before .before .before .before .before .before .before .before .before .before .well-formed .ensures .right (not-false _ (c .before .before .before .before .before .before .before .before .before .if1 .left))) (omega arith) (c .before .before .before .before .before .before .starts-below .ensures .1) (c .before .before .before .before .before .before .before .ends-below .ensures) (c .before .before .before .before .before .before .starts-below .ensures .0) (c .before .before .before .before .before .start-or .ensures) (c .before .before .before .before .end-or .ensures)) (c .before .before .splice2 .ensures)
+returns-3 c =
+    let d = c .before .before .before .before .before .before in
+    let d′ = d .before .before .before in
+    let d′′ = d′ .before in
+    let s = d′′ .before .before .before in
+    gives-edited (s .args .start .0) (s .args .end .0) difference-means (d′′ .well-formed .ensures .right (not-false _ (d′ .if1 .left))) (removed-rows (d′′ .well-formed .ensures .right (not-false _ (d′ .if1 .left))) (omega arith) (d .starts-below .ensures .1) (d .before .ends-below .ensures) (d .starts-below .ensures .0) (c .before .before .before .before .before .start-or .ensures) (c .before .before .before .before .end-or .ensures)) (c .before .before .splice2 .ensures)
 
 pub remove-spec : {M : Type 1} → statement M
 remove-spec =

@@ -32,7 +32,11 @@ end-at-requires : tie.Need-end-at-requires Inv-loop μ-loop
 end-at-requires c κs = search needs
 
 join-requires : tie.Need-join-requires Inv-loop μ-loop
-join-requires c κs = (omega (arith, c .before .before .before .before .loop .inv .0, c .before .before .before .before .before .before .before .before .pre .1 .1 .0), (c .before .before .before .before .loop .inv .1 .last, (omega (arith, c .before .before .before .before .loop .inv .1 .few, c .before .before .before .before .before .before .before .before .pre .0 .few, c .before .before .before .before .before .before .before .before .pre .1 .0 .few, c .before .before .before .loop-test .taken), (c .before .before .before .before .loop .inv .1 .most, omega (arith, c .before .before .start-at .ensures, c .before .end-at .ensures, c .before .before .before .before .before .before .before .before .pre .0 .ruled _ (c .before .before .before .loop-test .taken) .filled)))))
+join-requires c κs =
+    let d = c .before .before .before in
+    let l = d .before in
+    let s = l .before .before .before .before in
+    (omega (arith, l .loop .inv .0, s .pre .1 .1 .0), (l .loop .inv .1 .last, (omega (arith, l .loop .inv .1 .few, s .pre .0 .few, s .pre .1 .0 .few, d .loop-test .taken), (l .loop .inv .1 .most, omega (arith, c .before .before .start-at .ensures, c .before .end-at .ensures, s .pre .0 .ruled _ (d .loop-test .taken) .filled)))))
 
 further-requires : tie.Need-further-requires Inv-loop μ-loop
 further-requires c κs = search needs
@@ -44,7 +48,12 @@ loop-less : tie.Need-loop-less Inv-loop μ-loop
 loop-less c = search needs
 
 loop-again : tie.Need-loop-again Inv-loop μ-loop
-loop-again c = (c .before .before .before .join .kept .0 ∙ c .before .before .before .before .before .before .before .before .loop .inv .0, united-rest _ _ _ _ _ _ (λ _. refl) (λ _. refl) (ruled-links (c .before .before .before .before .before .before .before .before .before .before .before .before .pre .0)) (ruled-links (c .before .before .before .before .before .before .before .before .before .before .before .before .pre .1 .0)) _ _ _ _ _ _ _ _ _ (c .before .before .before .before .before .before .before .loop-test .taken) (c .before .before .before .before .before .before .start-at .ensures) (c .before .before .before .before .before .end-at .ensures) (c .before .before .before .before .before .before .before .before .loop .inv .1) (c .before .before .before .join .ensures) (omega (arith, c .before .before .before .before .before .end-at .ok)) (c .further .ensures))
+loop-again c =
+    let k = c .before .before .before in
+    let d = k .before .before in
+    let l = d .before .before .before in
+    let s = l .before .before .before .before in
+    (k .join .kept .0 ∙ l .loop .inv .0, united-rest _ _ _ _ _ _ (λ _. refl) (λ _. refl) (ruled-links (s .pre .0)) (ruled-links (s .pre .1 .0)) _ _ _ _ _ _ _ _ _ (d .before .before .loop-test .taken) (d .before .start-at .ensures) (d .end-at .ensures) (l .loop .inv .1) (k .join .ensures) (omega (arith, d .end-at .ok)) (c .further .ensures))
 
 same-length : tie.Need-same-length Inv-loop μ-loop
 same-length c = search needs

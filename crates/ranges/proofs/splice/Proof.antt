@@ -43,7 +43,9 @@ same-length : tie.Need-same-length
 same-length c = search needs
 
 returns : tie.Need-returns
-returns c = c .before .before .finish .ensures _ (laid-over _ (rowAt (c .before .before .before .before .before .before .before .before .before .before .args .t .now)) (c .before .before .before .before .before .before .before .before .before .before .args .i) (c .before .before .before .before .before .before .before .before .before .before .args .j) (c .before .before .before .before .before .before .before .before .before .before .args .n) (range (c .before .before .before .before .before .before .before .before .before .before .args .p .start) (c .before .before .before .before .before .before .before .before .before .before .args .p .end)) (range (c .before .before .before .before .before .before .before .before .before .before .args .q .start) (c .before .before .before .before .before .before .before .before .before .before .args .q .end)) (omega (arith, c .before .before .before .before .before .room .ensures)) (omega (arith, c .before .before .before .before .before .before .before .size .ensures, c .before .before .before .before .before .before .size2 .ensures)))
+returns c =
+    let s = c .before .before .before .before .before .before .before .before .before .before in
+    c .before .before .finish .ensures _ (laid-over _ (rowAt (s .args .t .now)) (s .args .i) (s .args .j) (s .args .n) (range (s .args .p .start) (s .args .p .end)) (range (s .args .q .start) (s .args .q .end)) (omega (arith, c .before .before .before .before .before .room .ensures)) (omega (arith, c .before .before .before .before .before .before .before .size .ensures, c .before .before .before .before .before .before .size2 .ensures)))
 
 copy-requires : tie.Need-copy-requires
 copy-requires c κs = search needs

@@ -52,7 +52,9 @@ add-result-2 : tie.Need-add-result-2 Inv-loop μ-loop
 add-result-2 c = search needs
 
 returns-4 : tie.Need-returns-4 Inv-loop μ-loop
-returns-4 c = (parted-left (c .before .before .before .before .before .before .before .args .i + 1) (parted-right (c .before .before .before .before .before .before .before .args .i) (c .before .before .before .before .before .before .before .pre .1 .1) (omega arith) (omega arith) (omega (arith, c .before .before .before .before .start-at .ensures))) (omega arith) (omega arith) (omega (arith, c .before .start-at2 .ensures)), omega arith)
+returns-4 c =
+    let s = c .before .before .before .before .before .before .before in
+    (parted-left (s .args .i + 1) (parted-right (s .args .i) (s .pre .1 .1) (omega arith) (omega arith) (omega (arith, c .before .before .before .before .start-at .ensures))) (omega arith) (omega arith) (omega (arith, c .before .start-at2 .ensures)), omega arith)
 
 sub-len : tie.Need-sub-len Inv-loop μ-loop
 sub-len c = search needs
@@ -85,7 +87,10 @@ loop-less : tie.Need-loop-less Inv-loop μ-loop
 loop-less c = search needs
 
 loop-again : tie.Need-loop-again Inv-loop μ-loop
-loop-again c = (parted-half (c .before .before .before .loop .len - c .before .before .before .loop .len / 2) (starts-rising (rowAt (c .before .before .before .before .before .before .before .before .before .before .before .args .t .now)) (c .before .before .before .before .before .before .before .before .before .before .before .args .n) (ruled-plain (c .before .before .before .before .before .before .before .before .before .before .before .pre .0))) (omega arith) (omega arith) (c .before .before .before .loop .inv .0) (advanced-at (c .before .start-at3 .ensures) (c .advance .ensures)), omega arith)
+loop-again c =
+    let l = c .before .before .before in
+    let s = l .before .before .before .before .before .before .before .before in
+    (parted-half (l .loop .len - l .loop .len / 2) (starts-rising (rowAt (s .args .t .now)) (s .args .n) (ruled-plain (s .pre .0))) (omega arith) (omega arith) (l .loop .inv .0) (advanced-at (c .before .start-at3 .ensures) (c .advance .ensures)), omega arith)
 
 returns-5 : tie.Need-returns-5 Inv-loop μ-loop
 returns-5 c = (parted-met (c .before .loop .inv .0) (omega arith), c .before .loop .inv .1)
