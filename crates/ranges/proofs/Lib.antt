@@ -15,7 +15,6 @@ pub mod Asking
 pub mod Determined
 pub mod Below
 pub mod Most
-pub mod Starred
 pub mod Refuted
 pub mod Same
 pub mod Orders
