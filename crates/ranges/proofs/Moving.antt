@@ -11,7 +11,7 @@ use Rattle.tables.specs.Inner.Rows.{span}
 use Rattle.tables.specs.Inner.Edit.{range, Moved, Stands}
 use Rattle.tables.proofs.Joining.{split}
 use Rattle.tables.proofs.Pushing.{row-is}
-use Rattle.tables.proofs.Copying.{Copied, copied-none, copied-more}
+pub use Rattle.tables.proofs.Copying.{Copied, copied-none, copied-more}
 use Rattle.ranges.specs.Inner.{rowAt}
 use Rattle.ranges.proofs.Stores.{added-below, added-at}
 

@@ -1,5 +1,4 @@
-use Rattle.tables.proofs.Copying.{Copied, copied-none, copied-more}
-use Rattle.ranges.proofs.Moving.{copied-rows}
+use Rattle.ranges.proofs.Moving.{Copied, copied-none, copied-more, copied-rows}
 use lib.ListN.{length, length-set}
 use Prim.Native.Nat.{ℕ, suc, _+_, _-_, _*_, _/_, _≤_, _<_}
 use native.Mathlib.Omega.{arith}
