@@ -34,17 +34,6 @@ push-goes lo v (r ∷ []) x e w j h p q = go (pushed r (suc x) e w)
 push-goes lo v (r ∷ t ∷ rs) x e w j h p q =
     ap suc (push-goes (r .end) (r .weight) (t ∷ rs) x e w (j .4) (omega arith) p (sym (at-past r (t ∷ rs) {x = x} (omega arith)) ∙ q))
 
--- and at most one more row in any case
-push-most : (rs : Rows) (s e w : ℕ) → length (push rs s e w) ≤ suc (length rs)
-unfolding push
-push-most [] s e w = omega arith
-push-most (r ∷ []) s e w = go (pushed r s e w)
-  where
-    go : {t : Rows} → Pushed r s e w t → length t ≤ 2
-    go (grown a b) = omega arith
-    go (added f) = omega arith
-push-most (r ∷ q ∷ rs) s e w = omega (arith, push-most (q ∷ rs) s e w)
-
 -- a piece at x + 1 with another weight than at x makes a row
 push-starts : (lo v : ℕ) (rs : Rows) (x e w : ℕ) → JoinedFrom lo v rs → top rs ≤ suc x → (at rs x ≡ w → ⊥) → length (push rs (suc x) e w) ≡ suc (length rs)
 unfolding push top JoinedFrom at

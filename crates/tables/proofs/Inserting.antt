@@ -101,9 +101,6 @@ advanced-most {m} {x} a = ⊎-elim (λ h. omega (arith, a .on h)) (λ h. omega (
 record From (c : ℕ) (ys : Rows) : Type 0 where
   any : (lo w : ℕ) → lo ≤ c → (lo ≡ c → w ≡ 1 → ⊥) → JoinedFrom lo w ys
 
-from-less : (c d : ℕ) (ys : Rows) → c ≤ d → From d ys → From c ys
-from-less c d ys h f = record { any = λ lo w a b. f .any lo w (omega arith) (λ e. b (omega arith)) }
-
 from-row : (c s e : ℕ) (ys : Rows) → c ≤ s → s < e → From (e + 1) ys → From c (piece s e 1 ∷ ys)
 unfolding JoinedFrom
 from-row c s e ys h l f =

@@ -6,7 +6,7 @@ use Prim.Native.Nat.{ℕ, zero, suc, _+_, _-_, _≤_, _<_}
 use native.Mathlib.Omega.{arith}
 use native.Mathlib.Numerals.{add-one}
 use lib.ListN.{length, length-append}
-use Rattle.tables.specs.Inner.Rows.{Row, Rows, push, put, span}
+use Rattle.tables.specs.Inner.Rows.{Row, Rows, push, span}
 use Rattle.tables.specs.Inner.Sweep.{Touches, Pushes, Holds}
 use Rattle.tables.proofs.Joining.{split, pushed, Pushed, grown, added}
 use Rattle.tables.proofs.Spanning.{length-span, span-snoc, span-same, push-last, push-grows, push-adds}
@@ -54,9 +54,6 @@ rows-add row (suc k) s e w h =
 -- ## The four ways to put a piece out
 
 module _ (room : ℕ) (row row′ : ℕ → Row) where
-  pub pushes-full : (k s e w : ℕ) → room < k → Pushes room row k s e w row′ k
-  pushes-full k s e w h = record { still = λ a. a; fits = λ a b. absurd (omega arith); over = λ a b. absurd (omega arith) }
-
   grows : (k s e w : ℕ) → suc k ≤ room → row k .end ≡ s → row k .weight ≡ w → ((j : ℕ) → j < k → row j ≡ row′ j) → row′ k ≡ piece (row k .start) e w
       → Pushes room row (suc k) s e w row′ (suc k)
   grows k s e w h t u f g =
@@ -107,19 +104,6 @@ holds-push room row row′ k r s e w p rs h =
       kept = λ a. ⊎-elim (λ b. absurd (omega (arith, p .still b))) (λ b. p .fits b a ∙ ap (λ (t : Rows). push t s e w) (h .kept b)) (split room k);
       over = λ a. ⊎-elim (λ b. omega (arith, h .over b, push-longer rs s e w)) (λ b. omega (arith, p .over b a, ap (λ (t : Rows). length (push t s e w)) (h .kept b))) (split room k);
     }
-
-put-some : (rs : Rows) (s e w : ℕ) → (w ≡ 0 → ⊥) → push rs s e w ≡ put rs s e w
-unfolding put
-put-some rs s e zero h = absurd (h refl)
-put-some rs s e (suc w) h = refl
-
-pub holds-put : (room : ℕ) (row row′ : ℕ → Row) (k r s e v w : ℕ) → v ≡ w → (w ≡ 0 → ⊥) → Pushes room row k s e v row′ r → (rs : Rows) → Holds room row k rs → Holds room row′ r (put rs s e w)
-holds-put room row row′ k r s e v w q b p rs h =
-    subst (λ (t : Rows). Holds room row′ r t) (ap (push rs s e) q ∙ put-some rs s e w b) (holds-push room row row′ k r s e v p rs h)
-
-pub holds-still : (room : ℕ) (row : ℕ → Row) (k s e w : ℕ) → w ≡ 0 → (rs : Rows) → Holds room row k rs → Holds room row k (put rs s e w)
-unfolding put
-holds-still room row k s e w q rs h = subst (λ (v : ℕ). Holds room row k (put rs s e v)) (sym q) h
 
 pub holds-room : {room room′ k : ℕ} {row : ℕ → Row} {rs : Rows} → room ≡ room′ → Holds room row k rs → Holds room′ row k rs
 holds-room {room} {room′} {k} {row} {rs} e h = subst (λ (n : ℕ). Holds n row k rs) e h

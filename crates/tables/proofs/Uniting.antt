@@ -1,8 +1,8 @@
 -- The union a row a step: what a stored row does to the rows put out, and what the rows put out mean. Assumes nothing.
 use mathlib.Core.Logic.{_⊎_, inl, inr, ⊎-elim}
-use mathlib.Core.Path.{_≡_, refl, ap, ap₂, sym, subst, subst₂, _∙_}
+use mathlib.Core.Path.{_≡_, refl, ap, sym, subst, subst₂, _∙_}
 use mathlib.Core.List.{[]}
-use Prim.Native.Nat.{ℕ, _+_, _-_, _≤_, _<_, max, min}
+use Prim.Native.Nat.{ℕ, _+_, _-_, _≤_, _<_, max}
 use native.Mathlib.Omega.{arith}
 use native.Mathlib.Numerals.{add-one}
 use Rattle.tables.specs.Inner.Rows.{Row, Rows, at, JoinedFrom, top, push, put, combined, union, span}
@@ -228,47 +228,8 @@ united-swap cap ra n i rb m j room row k e p =
 pub counted-some : (room : ℕ) (row : ℕ → Row) (k e x r : ℕ) → Last room row k e → Counted k e x r → 0 < r
 counted-some room row k e x r l q = ⊎-elim (λ h. omega (arith, q .off h, l .some (omega arith))) (λ h. omega (arith, q .on h)) (split x e)
 
--- a row of each table, of which the one that starts first is passed, or both
-pub record Pair (p q s t x i i′ j j′ s′ t′ y : ℕ) : Type 0 where
-  pub least : x ≡ min p q
-  pub one : Passed p x i i′
-  pub two : Passed q x j j′
-  pub end₁ : Ended p x s s′
-  pub end₂ : Ended q x t t′
-  pub most : y ≡ max s′ t′
-
-pub pair-fills : (p q s t x i i′ j j′ s′ t′ y : ℕ) → p < s → q < t → Pair p q s t x i i′ j j′ s′ t′ y → x < y
-pair-fills p q s t x i i′ j j′ s′ t′ y a b c =
-    ⊎-elim (λ h. omega (arith, c .least, c .most, c .end₂ .on (omega (arith, c .least)))) (λ h. omega (arith, c .least, c .most, c .end₁ .on (omega (arith, c .least)))) (split q p)
-
-pub pair-moves : (p q s t x i i′ j j′ s′ t′ y : ℕ) → Pair p q s t x i i′ j j′ s′ t′ y → i + j < i′ + j′
-pair-moves p q s t x i i′ j j′ s′ t′ y c =
-    ⊎-elim (λ h. omega (arith, at-least, c .two .on (omega (arith, c .least)))) (λ h. omega (arith, c .one .on (omega (arith, c .least)), at-least′)) (split q p)
-  where
-    at-least : i ≤ i′
-    at-least = ⊎-elim (λ h. omega (arith, c .one .off h)) (λ h. omega (arith, c .one .on h)) (split x p)
-
-    at-least′ : j ≤ j′
-    at-least′ = ⊎-elim (λ h. omega (arith, c .two .off h)) (λ h. omega (arith, c .two .on h)) (split x q)
-
-pub pair-within : (p q s t x i i′ j j′ s′ t′ y n m : ℕ) → i < n → j < m → Pair p q s t x i i′ j j′ s′ t′ y → (i′ ≤ n) × (j′ ≤ m)
-pair-within p q s t x i i′ j j′ s′ t′ y n m a b c = (
-  ⊎-elim (λ h. omega (arith, c .one .off h)) (λ h. omega (arith, c .one .on h)) (split x p),
-  ⊎-elim (λ h. omega (arith, c .two .off h)) (λ h. omega (arith, c .two .on h)) (split x q),
-)
-
 module _ (cap : ℕ) (ra : ℕ → Row) (n : ℕ) (rb : ℕ → Row) (m room : ℕ) (u : (j : ℕ) → ra j .weight ≡ 1) (v : (j : ℕ) → rb j .weight ≡ 1)
     (fa : (j : ℕ) → j < n → Links ra j) (fb : (j : ℕ) → j < m → Links rb j) where
-  pub united-pair : (i j k e r x y i′ j′ s′ t′ f : ℕ) (row row′ : ℕ → Row) → i < n → j < m
-      → Pair (ra i .start) (rb j .start) (ra i .end) (rb j .end) x i i′ j j′ s′ t′ y
-      → United cap ra n i rb m j room row k e → Adds room row k e x y row′ r → y < cap → f ≡ max e (y + 1) → United cap ra n i′ rb m j′ room row′ r f
-  united-pair i j k e r x y i′ j′ s′ t′ f row row′ a b c p d o g =
-      subst (λ (w : ℕ). United cap ra n i′ rb m j′ room row′ r w) (sym g)
-      (united-more cap ra n rb m room i i′ j j′ k r e x y s′ t′ row row′
-      (side ra n u fa i (e - 1) x i′ s′ a (p .one) (omega (arith, c .least)) (c .one) (c .end₁))
-      (side rb m v fb j (e - 1) x j′ t′ b (p .two) (omega (arith, c .least)) (c .two) (c .end₂))
-      (pair-fills _ _ _ _ _ _ _ _ _ _ _ _ (fa i a .filled) (fb j b .filled) c) (c .most) p d (pair-moves _ _ _ _ _ _ _ _ _ _ _ _ c) o)
-
   pub united-rest : (i k e r x y f : ℕ) (row row′ : ℕ → Row) → i < n → x ≡ ra i .start → y ≡ ra i .end
       → United cap ra n i rb m m room row k e → Adds room row k e x y row′ r → y < cap → f ≡ max e (y + 1) → United cap ra n (i + 1) rb m m room row′ r f
   united-rest i k e r x y f row row′ a q s p d o g =
@@ -277,18 +238,6 @@ module _ (cap : ℕ) (ra : ℕ → Row) (n : ℕ) (rb : ℕ → Row) (m room : �
       (side ra n u fa i (e - 1) x (i + 1) (ra i .end) a (p .one) (omega arith) (record { on = λ _. refl; off = λ h. absurd (omega arith) }) (record { on = λ _. refl; off = λ h. absurd (omega arith) }))
       (side-none rb m v fb (e - 1) x (p .two))
       (omega (arith, fa i a .filled)) (omega arith) p d (omega arith) o)
-
-pub pair-at : {p q s t p₁ q₁ s₁ t₁ x i i′ j j′ s′ t′ y : ℕ} → p ≡ p₁ → q ≡ q₁ → s ≡ s₁ → t ≡ t₁ → x ≡ min p q → Passed p x i i′ → Passed q x j j′ → Ended p x s s′ → Ended q x t t′ → y ≡ max s′ t′
-    → Pair p₁ q₁ s₁ t₁ x i i′ j j′ s′ t′ y
-pair-at {p} {q} {s} {t} {p₁} {q₁} {s₁} {t₁} {x} {i} {i′} {j} {j′} {s′} {t′} {y} a b c d l e f g h m =
-    record {
-      least = l ∙ ap₂ min a b;
-      one = subst (λ (v : ℕ). Passed v x i i′) a e;
-      two = subst (λ (v : ℕ). Passed v x j j′) b f;
-      end₁ = subst₂ (λ (v w : ℕ). Ended v x w s′) a c g;
-      end₂ = subst₂ (λ (v w : ℕ). Ended v x w t′) b d h;
-      most = m;
-    }
 
 pub less-left : (n m i j i′ j′ : ℕ) → i ≤ n → j ≤ m → i < n → i + j < i′ + j′ → (n + m) - (i′ + j′) < (n + m) - (i + j)
 less-left n m i j i′ j′ a b c d = omega arith
