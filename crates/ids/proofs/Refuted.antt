@@ -2,15 +2,15 @@
 use mathlib.Core.Logic.{_⊎_, inl, inr, ⊎-elim}
 use mathlib.Core.Path.{_≡_, refl, ap, subst}
 use mathlib.Core.List.{List, [], _∷_}
-use Prim.Native.Nat.{ℕ, zero, suc, _-_, _<_}
+use Prim.Native.Nat.{ℕ, suc, _-_, _<_}
 use native.Mathlib.Omega.{arith}
-use lib.ListN.{length, getD, replicate}
+use lib.ListN.{length, getD}
 use lib.Dec.{lit≤}
 use Rattle.varint.specs.declared.Refusal.the-variants.{Full}
 use Rattle.tables.specs.Answers.{Answer, padded, Gives, done}
 use Rattle.tables.specs.declared.Made.{Made}
 use Rattle.tables.specs.declared.Made.the-variants as made
-use Rattle.tables.proofs.Below.{refusal-leaves}
+use Rattle.tables.proofs.Below.{refusal-leaves, zeros}
 use Rattle.ids.specs.Rows.{Row, row}
 use Rattle.ids.specs.Tables.{Slices, Held, three, held, rows, most, filled, Merged, Diffed, Intersected, Inserted, Captured}
 use Rattle.ids.proofs.Determined.{writes-determined, capture-determined}
@@ -130,13 +130,8 @@ Left l = (i : ℕ) × (0 < getD l i 0)
 abbrev Leaves : Slices → Answer ℕ → Type 0
 Leaves out a = (0 < a .no) × ((0 < a .value) ⊎ (Left (out .clients) ⊎ (Left (out .starts) ⊎ Left (out .ends))))
 
-zeros : (n i : ℕ) → 0 < getD (replicate n 0) i 0 → ⊥
-zeros zero i h = omega arith
-zeros (suc n) zero h = omega arith
-zeros (suc n) (suc i) h = zeros n i h
-
 left-none : (n : ℕ) {l : List ℕ} → l ≡ padded n [] → Left l → ⊥
-left-none n e (i, h) = zeros (n - 0) i (subst (λ (l : List ℕ). 0 < getD l i 0) e h)
+left-none n e (i, h) = omega (arith, zeros (n - 0) i, subst (λ (l : List ℕ). 0 < getD l i 0) e h)
 
 pub leaves-none : {ok : Type 0} {right : List Row → Type 0} (o : Slices) {out : Slices} {a : Answer ℕ} → Gives ok right (most o) (λ t. filled t o) out a → Leaves out a → ⊥
 leaves-none o {out} {a} g (w, l) = ⊎-elim

@@ -5,8 +5,8 @@ use mathlib.Core.List.{List, [], _∷_}
 use Prim.Native.Nat.{ℕ, zero, suc, _/_, _≤_}
 use native.Mathlib.Omega.{arith}
 use lib.ListN.{length, take}
-use Rattle.tables.specs.Answers.{Answer, Says, Gives, Tells, says, refuses}
-use Rattle.tables.specs.Answers as given
+use Rattle.tables.specs.Answers.{Answer, Says}
+use Rattle.tables.proofs.Below.{Alike, gives-below, tells-below}
 use Rattle.tables.specs.declared.Made.{Made}
 use Rattle.tables.specs.declared.Told.{Told}
 use Rattle.tables.specs.declared.Counted.{Counted}
@@ -15,37 +15,6 @@ use Rattle.ranges.specs.declared.Edge.{Edge}
 use Rattle.ranges.specs.declared.Found.{Found}
 use Rattle.ranges.specs.Rows.{Row, row, Holds, Joined, TableOf, union, difference, intersection, findStart, clockStart, clockEnd, get}
 use Rattle.ranges.specs.Tables.{rows, Table, Merged, Excluded, Intersected, Inserted, Removed, After, Fills, done, full, malformed, FromRanges, ContainsClock, FindStart, ClockStart, ClockEnd, Len, IsEmpty, Get}
-
--- ## The general law: a promise sees its tables x through their rules and their rows
-
--- y stands for x in every promise: it keeps the rules where x does, and is made of the same rows
-pub record Alike {A : Type 0} (ok ok′ : Type 0) (x x′ : A) : Type 0 where
-  pub rules : ok ↔ ok′
-  pub same : x ≡ x′
-
-alike-back : {A : Type 0} {ok ok′ : Type 0} {x x′ : A} → Alike ok ok′ x x′ → Alike ok′ ok x′ x
-alike-back a = record { rules = (a .rules .1, a .rules .0); same = sym (a .same) }
-
-gives-alike : {A T O : Type 0} {ok ok′ : Type 0} {x x′ : A} (right : A → List T → Type 0) {most : ℕ} {fill : List T → O} {out : O} {a : Answer ℕ}
-    → Alike ok ok′ x x′ → Gives ok (right x) most fill out a → Gives ok′ (right x′) most fill out a
-gives-alike right k (given.done t o r l e f) = given.done t (k .rules .0 o) (subst (λ y. right y t) (k .same) r) l e f
-gives-alike right k (given.full t o r l e f) = given.full t (k .rules .0 o) (subst (λ y. right y t) (k .same) r) l e f
-gives-alike right k (given.malformed n e f) = given.malformed (λ o. n (k .rules .1 o)) e f
-
-tells-alike : {A B : Type 0} {ok ok′ : Type 0} {x x′ : A} (right : A → B → Type 0) {none : B} {a : Answer B}
-    → Alike ok ok′ x x′ → Tells ok (right x) none a → Tells ok′ (right x′) none a
-tells-alike right {a = a} k (says o e r) = says (k .rules .0 o) e (subst (λ y. right y (a .value)) (k .same) r)
-tells-alike right k (refuses n e) = refuses (λ o. n (k .rules .1 o)) e
-
-pub gives-below : {A T O : Type 0} {ok ok′ : Type 0} {x x′ : A} (right : A → List T → Type 0) {most : ℕ} {fill : List T → O} {out : O} {a : Answer ℕ}
-    → Alike ok ok′ x x′ → Gives ok (right x) most fill out a ↔ Gives ok′ (right x′) most fill out a
-gives-below right k = (gives-alike right k, gives-alike right (alike-back k))
-
-pub tells-below : {A B : Type 0} {ok ok′ : Type 0} {x x′ : A} (right : A → B → Type 0) {none : B} {a : Answer B}
-    → Alike ok ok′ x x′ → Tells ok (right x) none a ↔ Tells ok′ (right x′) none a
-tells-below right k = (tells-alike right k, tells-alike right (alike-back k))
-
--- ## Tables with the same count and the same rows
 
 pub record Below (l l′ : List ℕ) (n : ℕ) : Type 0 where
   pub fits : n ≤ length l / 2

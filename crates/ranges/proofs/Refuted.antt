@@ -2,14 +2,16 @@
 use mathlib.Core.Logic.{_⊎_, inl, inr, ⊎-elim}
 use mathlib.Core.Path.{_≡_, refl, ap, subst}
 use mathlib.Core.List.{List, [], _∷_}
-use Prim.Native.Nat.{ℕ, zero, suc, _-_, _<_}
+use Prim.Native.Nat.{ℕ, suc, _-_, _<_}
 use native.Mathlib.Omega.{arith}
-use lib.ListN.{length, getD, replicate}
+use lib.ListN.{length, getD}
 use Rattle.varint.specs.declared.Refusal.the-variants.{Full}
-use Rattle.tables.specs.Answers.{Answer, answer, Gives, done, full, malformed, says, refuses}
+use Rattle.tables.specs.Answers.{Answer, Gives, done, full, malformed, says, refuses}
 use Rattle.tables.specs.declared.Made.{Made}
 use Rattle.tables.specs.declared.Made.the-variants as made
 use Rattle.tables.specs.declared.Told.the-variants.{Yes}
+use Rattle.tables.proofs.Below as leaves
+use Rattle.tables.proofs.Below.{zeros}
 use Rattle.ranges.specs.Rows.{Row, row, Joined}
 use Rattle.ranges.specs.Tables.{rows, most, flat, filled, Merged, Fills, FromRanges, ContainsClock}
 use Rattle.ranges.specs.Tables as fills
@@ -102,23 +104,16 @@ last-only h =
 abbrev Leaves : List ℕ → Answer ℕ → Type 0
 Leaves out a = (0 < a .no) × ((0 < a .value) ⊎ ((i : ℕ) × (0 < getD out i 0)))
 
-zeros : (n i : ℕ) → 0 < getD (replicate n 0) i 0 → ⊥
-zeros zero i h = omega arith
-zeros (suc n) zero h = omega arith
-zeros (suc n) (suc i) h = zeros n i h
-
-leaves-none : (len : ℕ) {no : ℕ} {out : List ℕ} {a : Answer ℕ} → a ≡ answer no 0 → out ≡ filled len [] → Leaves out a → ⊥
+leaves-none : (len : ℕ) {out : List ℕ} {a : Answer ℕ} → (a .value ≡ 0) × (out ≡ filled len []) → Leaves out a → ⊥
 unfolding flat
-leaves-none len e f (w, inl h) = omega (arith, ap (λ (b : Answer ℕ). b .value) e)
-leaves-none len e f (w, inr (i, h)) = zeros (len - 0) i (subst (λ (o : List ℕ). 0 < getD o i 0) f h)
+leaves-none len e (w, inl h) = omega (arith, e .0)
+leaves-none len e (w, inr (i, h)) = omega (arith, zeros (len - 0) i, subst (λ (o : List ℕ). 0 < getD o i 0) (e .1) h)
 
 -- of every routine that writes a table
 pub refusal-leaves : {ok : Type 0} {right : List Row → Type 0} (len : ℕ) {out : List ℕ} {a : Answer ℕ} → Gives ok right (most len) (filled len) out a → Leaves out a → ⊥
-refusal-leaves len (done t o r l e f) w = omega (arith, w .0, ap (λ (b : Answer ℕ). b .no) e)
-refusal-leaves len (full t o r l e f) w = leaves-none len e f w
-refusal-leaves len (malformed n e f) w = leaves-none len e f w
+refusal-leaves len g w = leaves-none len (leaves.refusal-leaves (λ z. omega (arith, w .0)) g) w
 
 pub from-ranges-leaves : {l : List ℕ} {n len : ℕ} {out : List ℕ} {a : Answer ℕ} → Fills l n len out a → Leaves out a → ⊥
 from-ranges-leaves {len = len} (fills.done t h p s e f) w = omega (arith, w .0, ap (λ (b : Answer ℕ). b .no) e)
-from-ranges-leaves {len = len} (fills.full i u h k q m e f) w = leaves-none len e f w
-from-ranges-leaves {len = len} (fills.malformed h e f) w = leaves-none len e f w
+from-ranges-leaves {len = len} (fills.full i u h k q m e f) w = leaves-none len (ap (λ (b : Answer ℕ). b .value) e, f) w
+from-ranges-leaves {len = len} (fills.malformed h e f) w = leaves-none len (ap (λ (b : Answer ℕ). b .value) e, f) w

@@ -9,9 +9,10 @@ use Rattle.varint.specs.Answer.{noOf}
 use Rattle.varint.specs.declared.Refusal.{Refusal}
 use Rattle.varint.specs.declared.Refusal.the-variants.{Full}
 use Rattle.varint.proofs.Chaining.{refuses}
-use Rattle.tables.specs.Answers.{Answer, Gives, done, full, malformed, says}
+use Rattle.tables.specs.Answers.{done, says}
 use Rattle.tables.specs.declared.Made.{Made}
 use Rattle.tables.specs.declared.Made.the-variants as made
+use Rattle.tables.proofs.Below.{refusal-leaves, zeros}
 use Rattle.state_vector.specs.Rows.{Row, row}
 use Rattle.state_vector.specs.Vectors.{Slices, two, Held, held, rows, most, Table, filled, Writes, MinSet, Merged, Compared}
 use Rattle.state_vector.specs.Bytes as bytes
@@ -103,24 +104,12 @@ absent-zero c k h =
 
 -- ## What a refusal leaves
 
--- a refused answer with a count, or with an element that isn't zero, is excluded: for every table routine
-pub refusal-leaves : {T O : Type 0} {ok : Type 0} {right : List T → Type 0} {m : ℕ} {fill : List T → O} {out : O} {a : Answer ℕ}
-    → Gives ok right m fill out a → (a .no ≡ 0 → ⊥) → (a .value ≡ 0) × (out ≡ fill [])
-refusal-leaves (done t o r l e f) n = absurd (n (ap (λ (x : Answer ℕ). x .no) e))
-refusal-leaves (full t o r l e f) n = (ap (λ (x : Answer ℕ). x .value) e, f)
-refusal-leaves (malformed k e f) n = (ap (λ (x : Answer ℕ). x .value) e, f)
-
 -- for decoding: the place too
 pub refusal-decoded : {bs : List ℕ} {place : ℕ} {o out : Slices} {d : Decoding} → Decodes bs place o out d → (d .no ≡ 0 → ⊥) → (d .count ≡ 0) × (d .place ≡ place) × (out ≡ filled [] o)
 refusal-decoded (bytes.done got t p e v f g) n = absurd (n (ap (λ (x : Decoding). x .no) f))
 refusal-decoded (bytes.refused m e f g) n = (ap (λ (x : Decoding). x .count) f, ap (λ (x : Decoding). x .place) f, g)
 
 -- every element of either slice, of whatever lengths
-zeros : (n j : ℕ) → getD (replicate {A = ℕ} n 0) j 0 ≡ 0
-zeros zero j = refl
-zeros (suc n) zero = refl
-zeros (suc n) (suc j) = zeros n j
-
 all-zero : (o : Slices) {out : Slices} → out ≡ filled [] o → (j : ℕ) → (getD (out .clients) j 0 ≡ 0) × (getD (out .clocks) j 0 ≡ 0)
 all-zero o e j = (ap (λ (x : Slices). getD (x .clients) j 0) e ∙ zeros (length (o .clients) - 0) j, ap (λ (x : Slices). getD (x .clocks) j 0) e ∙ zeros (length (o .clocks) - 0) j)
 
@@ -128,7 +117,7 @@ refusing : (e : Refusal) → noOf e ≡ 0 → ⊥
 refusing e = eqb-false (noOf e) 0 (refuses e)
 
 pub refused-zero : {ok : Type 0} {right : List Row → Type 0} (o out : Slices) (e : Refusal) → Writes ok right o out (made.Refused e) → (j : ℕ) → (getD (out .clients) j 0 ≡ 0) × (getD (out .clocks) j 0 ≡ 0)
-refused-zero o out e h = all-zero o (refusal-leaves h (refusing e) .1)
+refused-zero o out e h = all-zero o (refusal-leaves (refusing e) h .1)
 
 pub decode-refused-zero : (bs : List ℕ) (place : ℕ) (o out : Slices) (e : Refusal) → Decodes bs place o out (saidDecoded place (decoded.Refused e)) → (j : ℕ) → (getD (out .clients) j 0 ≡ 0) × (getD (out .clocks) j 0 ≡ 0)
 decode-refused-zero bs place o out e h = all-zero o (refusal-decoded h (refusing e) .2)

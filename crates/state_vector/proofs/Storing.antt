@@ -5,13 +5,13 @@ use Prim.Native.Nat.{ℕ, _+_, _-_, _≤_, _<_}
 use native.Mathlib.Omega.{arith}
 use lib.ListN.{length, take, set, replicate, length-append}
 use lib.Seq.{getD-set-same, getD-set-other, length-take-le}
-use Rattle.tables.specs.Answers.{done, full, malformed}
+use Rattle.tables.specs.Answers.{padded, done, full, malformed}
 use Rattle.tables.specs.declared.Made.{Made}
 use Rattle.tables.specs.declared.Made.the-variants as made
 use Rattle.varint.specs.declared.Refusal.the-variants.{Malformed}
 use Rattle.tables.specs.Answers.{saidMade}
 use Rattle.state_vector.specs.Rows.{Row, row}
-use Rattle.state_vector.specs.Vectors.{Slices, two, rowsOf, room, most, padded, filled, Writes}
+use Rattle.state_vector.specs.Vectors.{Slices, two, rowsOf, room, most, filled, Writes}
 use Rattle.state_vector.specs.Inner.{rowAt, span, Holds, Closes, fits, over, Stores, Rests}
 use Rattle.state_vector.proofs.Spanning.{span-snoc, span-append, span-none, span-same, rows-span, columns}
 

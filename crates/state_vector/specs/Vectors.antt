@@ -1,11 +1,11 @@
 -- State vectors in lent slices, and what each routine promises. Document 01, "Tables" and "State vectors".
 use mathlib.Core.Path.{_≡_}
-use mathlib.Core.List.{List, [], _∷_, _++_, map}
-use Prim.Native.Nat.{ℕ, zero, suc, _-_, _≤_, min}
-use lib.ListN.{length, replicate}
+use mathlib.Core.List.{List, [], _∷_, map}
+use Prim.Native.Nat.{ℕ, zero, suc, _≤_, min}
+use lib.ListN.{length}
 use Rattle.varint.specs.Answer.{noOf}
 use Rattle.tables.specs.Limits.{vectorLimit}
-use Rattle.tables.specs.Answers.{Answer, answer, Gives, Tells, saidMade}
+use Rattle.tables.specs.Answers.{Answer, answer, padded, Gives, Tells, saidMade}
 use Rattle.tables.specs.declared.Made.{Made}
 use Rattle.state_vector.specs.Rows.{Row, row, at, Rising, SetMax, SetMin, Merge, Verdict, less, equal, greater, none, Compare}
 use Rattle.state_vector.specs.declared.Got.{Got}
@@ -51,10 +51,6 @@ most o = min vectorLimit (room o)
 pub record Table (h : Held) : Type 0 where
   pub few : h .count ≤ most (h .slices)
   pub rising : Rising (rows h)
-
--- a list in front, and zeros behind it
-abbrev pub padded : ℕ → List ℕ → List ℕ
-padded n l = l ++ replicate (n - length l) 0
 
 -- "the new table fills the front of the output and every later element of each output slice is zero"
 abbrev pub filled : List Row → Slices → Slices

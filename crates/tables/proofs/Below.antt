@@ -1,8 +1,9 @@
 -- A promise sees the tables that it is about through their rules and their rows: what stands for them there has the same promise. Assumes nothing.
 use mathlib.Core.Logic.{_↔_}
-use mathlib.Core.Path.{_≡_, ap, sym, subst}
+use mathlib.Core.Path.{_≡_, refl, ap, sym, subst}
 use mathlib.Core.List.{List, []}
-use Prim.Native.Nat.{ℕ}
+use Prim.Native.Nat.{ℕ, zero, suc}
+use lib.ListN.{getD, replicate}
 use Rattle.tables.specs.Answers.{Answer, Gives, done, full, malformed, Tells, says, refuses}
 
 -- x′ keeps its rules where x does, and has the same rows
@@ -38,3 +39,8 @@ pub refusal-leaves : {T O : Type 0} {ok : Type 0} {right : List T → Type 0} {m
 refusal-leaves n (done t o r l e f) = absurd (n (ap (λ (b : Answer ℕ). b .no) e))
 refusal-leaves n (full t o r l e f) = (ap (λ (b : Answer ℕ). b .value) e, f)
 refusal-leaves n (malformed m e f) = (ap (λ (b : Answer ℕ). b .value) e, f)
+
+pub zeros : (n i : ℕ) → getD (replicate {A = ℕ} n 0) i 0 ≡ 0
+zeros zero i = refl
+zeros (suc n) zero = refl
+zeros (suc n) (suc i) = zeros n i
