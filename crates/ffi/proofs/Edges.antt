@@ -11,6 +11,8 @@ use borrow.Author.Tests.{lt-leb}
 use lib.Dec.{lit≤}
 use lib.IntN.{pos}
 use lib.ListN.{length, getD, take, drop, drop-of-length-le}
+use mir.Syntax.{w32}
+use mir.Val.{Fits}
 use Rattle.varint.specs.Number as number′
 use Rattle.varint.specs.Number.{andThen, eleventh, tenth, reads, readAt, narrowed, refused, unwritten, writeAt}
 use Rattle.varint.specs.Integer.{IntAnswer, refusedInt, signedAt, plain, fitting, minusAt, signedOf}
@@ -20,6 +22,7 @@ use Rattle.tables.specs.Answers.{Answer, answer, Gives, done, full, malformed, 
 use Rattle.tables.specs.declared.Made.the-variants as made
 use Rattle.ranges.specs.Tables as of-ranges
 use Rattle.ranges.proofs.Same.{last-clock}
+use Rattle.ids.proofs.Same as ids
 use Rattle.ids.specs.Rows.{Row, row}
 use Rattle.ids.specs.Tables as of-ids
 use Rattle.state_vector.specs.Vectors as of-vectors
@@ -110,9 +113,13 @@ not-so {ok = ok} {P = P} r n c = sym (ap (λ (s : YesNo). s .value) (c .same)) �
     go {a} (says k e s) = no (a .value) s
     go (refuses m e) = ap (λ (a : Answer Bool). a .value) e
 
--- "clock 4,294,967,295 is in no range"
-pub last-clock-not-in : (l : List ℕ) (n : ℕ) (r : YesNo) → ((i : ℕ) → getD l i 0 ≤ 4294967295) → Crosses (of-ranges.ContainsClock l n 4294967295) asYesNo r → r .value ≡ false
+-- "clock 4,294,967,295 is in no range", of a table of ranges and of ids
+pub last-clock-not-in : (l : List ℕ) (n : ℕ) (r : YesNo) → ((i : ℕ) → Fits w32 (getD l i 0)) → Crosses (of-ranges.ContainsClock l n 4294967295) asYesNo r → r .value ≡ false
 last-clock-not-in l n r h c = not-so r (last-clock l n h) c
+
+pub last-id-not-in : (cs ss es : List ℕ) (n d : ℕ) (r : YesNo) → ((i : ℕ) → Fits w32 (getD es i 0)) → Crosses (of-ids.Contains (of-ids.held cs ss es n) d 4294967295) asYesNo r
+    → r .value ≡ false
+last-id-not-in cs ss es n d r h c = not-so r (ids.last-clock n cs ss es (λ i. omega (arith, h i)) d) c
 
 -- Rows of two clients are never one, though their clocks touch: in any output with room for two, whatever the lengths of its slices.
 module _ (c d s k e : ℕ) (o out : of-ids.Slices) (r : Rows) where
