@@ -17,6 +17,11 @@ fn main() {
         eprintln!("The proved library is missing: there is no {}.\nIn the root of the repository, run: rt staticlib ffi\nOr let IZGARMULF_LIB name the folder of a libffi.a.", lib.display());
         exit(1);
     }
+    let processor = env::var("CARGO_CFG_TARGET_ARCH").unwrap();
+    if processor != "x86_64" {
+        eprintln!("The proved library is x86-64 code, and this build is for {processor}: it can't be linked.\nBuild for x86_64-unknown-linux-gnu.");
+        exit(1);
+    }
     println!("cargo:rustc-link-search=native={}", dir.display());
     println!("cargo:rustc-link-lib=static=ffi");
     let source = root.join("crates/ffi/src/lib.rt");
