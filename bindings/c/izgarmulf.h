@@ -3,6 +3,7 @@
  * A slice crosses as a pointer and how many elements may be read or written there; with 0 elements the pointer is not followed.
  * The caller sees to this: each pointer has as many elements as its length says; an output overlaps neither an input nor another output;
  * a `bool` is 0 or 1. Nothing else is assumed: counts, places and elements may be anything, and every call returns.
+ * A client is a uint64_t and a clock a uint32_t. C does not keep the two apart: a client passed where a clock is meant is cut to 32 bits.
  * Each answer has `no`: 0 done, 1 END, 2 LONG, 3 RANGE, 4 FULL, 5 MALFORMED, 6 SIGN.
  */
 #ifndef IZGARMULF_H

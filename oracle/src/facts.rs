@@ -6,9 +6,10 @@ use crate::encoding::read::{Cursor, Read as _};
 use crate::ids::IdMapInner;
 use crate::original::{decoded, ids, sorted, table, vector, vector_rows, written, written_signed};
 use crate::updates::encoder::Encode;
-use crate::{gen, model};
+use crate::{gen, model, ours};
 use std::fmt::Debug;
 use std::panic::{catch_unwind, AssertUnwindSafe};
+use std::sync::atomic::{AtomicUsize, Ordering::Relaxed};
 
 pub struct Fact { pub what: String, pub document: String, pub rust: String }
 
@@ -34,6 +35,26 @@ fn read(b: &[u8], i: Int, signed: bool) -> String {
     }
     match i { Int::U8 => go::<u8>(b), Int::U32 => go::<u32>(b), Int::U64 => go::<u64>(b), Int::I8 => go::<i8>(b), Int::I32 => go::<i32>(b), _ => go::<i64>(b) }
 }
+static ASKED: AtomicUsize = AtomicUsize::new(0);
+/// What the model says; where the proved library is linked it is asked too, and must say the same.
+fn said(c: &Case) -> Answer {
+    let m = model::answer(c);
+    if let Some(u) = ours::answer(c) {
+        assert!(u == m, "{}: ours {}, document 01 {}", c.line(), u.line(c.op), m.line(c.op));
+        ASKED.fetch_add(1, Relaxed);
+    }
+    m
+}
+/// A case whose answer by document 01 is written out.
+fn holds(case: &str, answer: &str) {
+    let c = Case::parse(case).unwrap();
+    assert_eq!(said(&c).line(c.op), answer, "{case}");
+}
+/// How many inputs the proved library was asked.
+pub fn asked() -> String {
+    if ours::LINKED { format!("the proved library was asked {} of these inputs, and says what document 01 says", ASKED.load(Relaxed)) } else { "the proved library was not asked".into() }
+}
+
 fn name(no: u32) -> &'static str { ["done", "END", "LONG", "RANGE", "FULL", "MALFORMED", "SIGN"][no as usize] }
 
 pub fn all() -> Vec<Fact> {
@@ -54,7 +75,7 @@ pub fn all() -> Vec<Fact> {
     ] {
         let mut c = Case::of(if signed { Op::ReadSigned(i) } else { Op::Read(i) });
         c.bytes = b.clone();
-        let m = model::number(&c);
+        let m = said(&c);
         let value = if i.least() < 0 { format!("{}", m.value as i64) } else { format!("{}", m.value) };
         let doc = if m.no > 0 { format!("{}, place {}", name(m.no), m.next) } else if signed { format!("{} {value}, place {}", if m.some { "minus" } else { "plus" }, m.next) } else { format!("{value}, place {}", m.next) };
         let rust = match catch_unwind(|| read(&b, i, signed)) { Ok(s) => s, Err(_) => tried(|| read(&b, i, signed)) };
@@ -62,7 +83,7 @@ pub fn all() -> Vec<Fact> {
     }
     add("read u16 of 80 80 04 (65,536)".into(), "left out".into(), tried(|| { let mut c = Cursor::new(&[0x80, 0x80, 4]); let r = c.read_var::<u16>(); format!("{r:?}, place {}", c.next) }));
     // writers
-    let wrote = |op: Op, int: i128, flag: bool| { let mut c = Case::of(op); c.int = int; c.flag = flag; c.bytes = vec![0; 16]; let m = model::answer(&c); if m.no > 0 { name(m.no).to_string() } else { hex(&m.bytes[..m.next]) } };
+    let wrote = |op: Op, int: i128, flag: bool| { let mut c = Case::of(op); c.int = int; c.flag = flag; c.bytes = vec![0; 16]; let m = said(&c); if m.no > 0 { name(m.no).to_string() } else { hex(&m.bytes[..m.next]) } };
     add("write i64 -2^63".into(), wrote(Op::Write(Int::I64), i64::MIN as i128, true), tried(|| Hex(written(i64::MIN))));
     add("write i64 -2^63 + 1".into(), wrote(Op::Write(Int::I64), i64::MIN as i128 + 1, true), tried(|| Hex(written(i64::MIN + 1))));
     add("write i32 -2^31".into(), wrote(Op::Write(Int::I32), i32::MIN as i128, true), tried(|| Hex(written(i32::MIN))));
@@ -75,7 +96,7 @@ pub fn all() -> Vec<Fact> {
         let mut c = Case::of(Op::VecDecode);
         c.bytes = b.to_vec();
         c.out = gen::room(Kind::Vector, rows, 0);
-        let m = model::answer(&c);
+        let m = said(&c);
         let doc = if m.no > 0 { format!("{}, place {}", name(m.no), m.next) } else { format!("{:?}, place {}", (0..m.out.n).map(|i| (m.out.longs[i], m.out.ints[i])).collect::<Vec<_>>(), m.next) };
         let rust = match catch_unwind(|| decoded(b, 0)) { Ok(Ok((v, n))) => format!("{:?}, place {n}", vector_rows(&v).iter().map(|r| (r.0, r.1)).collect::<Vec<_>>()), Ok(Err(e)) => format!("{e:?}"), Err(_) => tried(|| decoded(b, 0).map(|x| x.1)) };
         (doc, rust)
@@ -91,7 +112,18 @@ pub fn all() -> Vec<Fact> {
         let t = gen::vec_table(&[(x, 0), (y, 0)]);
         add(format!("encode {{{x}:0, {y}:0}}"), hex(&model::vector_bytes(&model::vector(&t).unwrap())), tried(|| Hex(vector(&t).encode_v1())));
     }
-    // tables
+    // tables: what the document's column says, as cases
+    holds("id.insert_range a=0;;; client=3 start=5 end=5 out=0;9;9;9", "no=0 out=0;0;0;0");
+    holds("id.len a=0;;;", "no=0 value=0");
+    holds("merge a=2;;2,5,5,7; b=0;;; out=0;;9,9,9,9;", "no=5 out=0;;0,0,0,0;");
+    holds("merge a=2;;2,5,5,7; b=1;;9,10; out=0;;9,9,9,9,9,9;", "no=5 out=0;;0,0,0,0,0,0;");
+    holds("insert a=1;;2,3; start=7 end=5 out=0;;9,9;", "no=0 out=1;;2,3;");
+    holds("insert a=1;;0,1; start=4294967294 end=4294967295 out=0;;9,9,9,9;", "no=0 out=2;;0,1,4294967294,4294967295;");
+    holds("vector.set_min a=0;;; client=3 start=9 out=0;9;9;", "no=0 out=1;3;9;");
+    holds("vector.set_max a=0;;; client=3 start=0 out=0;9;9;", "no=0 out=1;3;0;");
+    holds("vector.partial_cmp a=1;1;0; b=0;;;", "no=0 value=2");
+    let (full, zeros) = ((0..2048).map(|k| k.to_string()).collect::<Vec<_>>().join(","), vec!["0"; 2050].join(","));
+    holds(&format!("insert a=1024;;{full}; start=2048 end=2049 out=0;;{zeros};"), &format!("no=4 out=0;;{zeros};"));
     let empty: IdMapInner<()> = IdMapInner::new();
     let with_empty = || { let mut t: IdMapInner<()> = IdMapInner::new(); t.insert_range(ClientID::new(3), 5..5, ()); t };
     add("id table {} insert_range(3, 5..5): len, is_empty, equals {}".into(), "0, true, true".into(), tried(|| { let t = with_empty(); (t.len(), t.is_empty(), t == empty) }));

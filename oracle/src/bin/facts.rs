@@ -9,5 +9,5 @@ fn main() {
     assert_eq!(lines.len(), all.len());
     println!("| input | document 01 | Rust debug | Rust release |\n|---|---|---|---|");
     for (f, d) in all.iter().zip(lines) { println!("| {} | {} | {} | {} |", f.what, f.document, d, f.rust) }
-    println!("\n{}", facts::declared());
+    println!("\n{}\n{}", facts::asked(), facts::declared());
 }
