@@ -7,13 +7,13 @@ use mathlib.Core.Bool.{Bool, true, false, cond, true≢false}
 use native.Mathlib.Nat.{one-mul, mod-lt, mul-mod-right}
 use native.Mathlib.Omega.{arith}
 use borrow.Author.Tests.{lt-ltb}
-use lib.Dec.{leb}
+use lib.Dec.{leb, ltb}
 use lib.IntN.{ℤ, pos, negsuc, natAbs}
 use lib.ListN.{length, drop}
 use lib.Pow.{pow-pos, pow-add, shl-exact}
 use lib.Seq.{drop-at, drop-drop}
 use Rattle.varint.specs.Number.{Answer, andThen, shifted, reads, readAt, narrowed, written, bytesOf, Written, writeAt}
-use Rattle.varint.specs.Integer.{IntAnswer, signedAt, plain, fitting, wrongSign, writeSignedAt}
+use Rattle.varint.specs.Integer.{IntAnswer, signedAt, plain, fitting, signedBytes, intBytes, wrongSign, writeSignedAt}
 use Rattle.varint.specs.Answer.{noOf, said8, said32, said64, saidI8, saidSignedI64, wrote}
 use Rattle.varint.specs.declared.Refusal.{Refusal}
 use Rattle.varint.specs.declared.Refusal.the-variants.{Full, Sign}
@@ -141,6 +141,16 @@ module _ (buf after : List ℕ) (at : ℕ) where
         told true d = differs (ap (λ (w : Written). w .buffer) (rw d at h))
         told false d = refused-changed _ buf after at e differs (rw d at h)
 
+    -- a refusal that moves the place
+    pub signed-refused-moved : {n p : ℕ} → (p ≡ at → ⊥) → record { no = suc n; place = p; buffer = after } ≡ writeSignedAt minus v buf at → ⊥
+    unfolding writeSignedAt
+    signed-refused-moved differs h = told (wrongSign minus v) refl
+      where
+        told : (t : Bool) → wrongSign minus v ≡ t → ⊥
+        told true d = differs (ap (λ (w : Written). w .place) (rw d at h))
+        told false d = refused-moved _ buf after at differs (rw d at h)
+
+    -- FULL where SIGN is due
     pub full-first : wrongSign minus v ≡ true → wrote at (answer.Refused Full) after ≡ writeSignedAt minus v buf at → ⊥
     full-first due h = let z : _≡_ {A = ℕ} 4 6 = sign-due due h in omega arith
 
@@ -151,14 +161,30 @@ module _ (buf after : List ℕ) (at : ℕ) where
   pub below-unflagged : (n p : ℕ) → wrote at (answer.Done p) after ≡ writeSignedAt false (negsuc n) buf at → ⊥
   below-unflagged n p h = let z : _≡_ {A = ℕ} 0 6 = sign-due false (negsuc n) refl h in omega arith
 
--- Lengths: 0 takes a byte, and 128 takes two.
-pub empty-zero : 0 ≡ length (bytesOf 0) → ⊥
-unfolding bytesOf written
-empty-zero z = omega arith
+some-byte : (bits flag v : ℕ) → 0 ≡ length (written 10 bits flag v) → ⊥
+unfolding written
+some-byte bits flag v e = told (ltb v (2 ^ bits)) refl
+  where
+    told : (t : Bool) → ltb v (2 ^ bits) ≡ t → ⊥
+    told true h = let z = rw h at e in omega arith
+    told false h = let z = rw h at e in omega arith
+
+-- Lengths: every number takes a byte; 128 takes two, and of the signed ones 64.
+pub no-byte : (v : ℕ) → 0 ≡ length (bytesOf v) → ⊥
+unfolding bytesOf
+no-byte v = some-byte 7 0 v
+
+pub no-signed-byte : (v : ℤ) → 0 ≡ length (intBytes v) → ⊥
+unfolding signedBytes
+no-signed-byte v = some-byte 6 _ (natAbs v)
 
 pub eight-bits : 1 ≡ length (bytesOf 128) → ⊥
 unfolding bytesOf written
 eight-bits z = omega arith
+
+pub seven-bits : 1 ≡ length (intBytes (pos 64)) → ⊥
+unfolding signedBytes written
+seven-bits z = omega arith
 
 -- A shift that loses a 1, at any width: no shift does, for it is taken modulo the width.
 pub shift-out : (w s : ℕ) → 0 < w → 0 ≡ shifted w 1 s → ⊥
