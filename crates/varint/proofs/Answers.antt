@@ -1,6 +1,6 @@
 -- What the public readers and writers of signed numbers make of what those below them answered. Assumes nothing.
 use Prim.Native.Nat.{ℕ, _-_, _^_, _<_, _≤_}
-use mathlib.Core.Path.{_≡_, refl, sym, ap, _∙_}
+use mathlib.Core.Path.{_≡_, sym, ap, _∙_}
 use mathlib.Core.Bool.{Bool, true, false}
 use mathlib.Core.List.{List}
 use mathlib.Core.Logic.{⊎-elim}
@@ -11,10 +11,9 @@ use lib.ListN.{length}
 use lib.IntN.{ℤ, pos, natAbs}
 use lib.Signed.{mag, ltZ}
 use mir.Syntax.{Width, w64}
-use mir.Val.{SFits, toZ, ofZ, hbits}
+use mir.Val.{SFits, hbits}
 use mir.Facts.{toZ-ofZ, sfits-widen}
 use lib.Dec.{T, leb}
-use lib.Pow.{pow-pos}
 use Rattle.varint.specs.Number.{Answer, andThen, readBy, signed, Written, unwritten, writeAt}
 use Rattle.varint.specs.Integer.{IntAnswer, refusedInt, minusAt, signedOf, signedAt, plain, fitting, signedBytes, intBytes, wrongSign, writeSignedAt}
 use Rattle.varint.specs.Answer.{noOf, said64, saidI64, saidSignedI64}
@@ -90,7 +89,7 @@ module _ (w : ℕ) (at : ℕ) {a : IntAnswer} where
 
   pub fit-refused : (n : Refusal) → refusedInt (noOf n) at ≡ a → refusedInt (noOf n) at ≡ fitting w at a
   unfolding fitting
-  fit-refused n e = rw (← e, lt-ltb 0 (2 ^ (w - 1)) (pow-pos (w - 1)))
+  fit-refused n e = rw (← e, refuses n)
 
 pub narrow-fits : (w : Width) {d : ℕ} {y : ℤ} → d ≡ mag y → d < 2 ^ hbits w → SFits w y
 narrow-fits w e l = record { sfits = rw e at l }

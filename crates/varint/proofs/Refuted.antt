@@ -1,17 +1,19 @@
 -- Wrong readers and writers that the promises exclude: document 01, "How tight the statements are" and "Errors that tempt". Assumes nothing.
-use Prim.Native.Nat.{ℕ, zero, suc, _+_, _-_, _^_, _≤_}
+use Prim.Native.Nat.{ℕ, suc, _+_, _*_, _-_, _%_, _^_, _≤_, _<_}
 use mathlib.Core.Path.{_≡_, refl, sym, ap, _∙_}
-use mathlib.Core.Logic.{_⊎_, inl, inr, ⊎-elim}
+use mathlib.Core.Logic.{inl, inr}
 use mathlib.Core.List.{List, [], _∷_}
 use mathlib.Core.Bool.{Bool, true, false, cond, true≢false}
+use native.Mathlib.Nat.{one-mul, mod-lt, mul-mod-right}
 use native.Mathlib.Omega.{arith}
 use borrow.Author.Tests.{lt-ltb}
-use lib.Dec.{ltb, leb, eqb}
+use lib.Dec.{leb, ltb}
 use lib.IntN.{ℤ, pos, negsuc, natAbs}
 use lib.ListN.{length, drop}
+use lib.Pow.{pow-pos, pow-add, shl-exact}
 use lib.Seq.{drop-at, drop-drop}
-use Rattle.varint.specs.Number.{Answer, andThen, shifted, reads, readBy, signed, readAt, narrowed, written, bytesOf, Written, writeAt}
-use Rattle.varint.specs.Integer.{IntAnswer, signedAt, plain, fitting, wrongSign, writeSignedAt}
+use Rattle.varint.specs.Number.{Answer, andThen, shifted, reads, readAt, narrowed, written, bytesOf, Written, writeAt}
+use Rattle.varint.specs.Integer.{IntAnswer, signedAt, plain, fitting, signedBytes, intBytes, wrongSign, writeSignedAt}
 use Rattle.varint.specs.Answer.{noOf, said8, said32, said64, saidI8, saidSignedI64, wrote}
 use Rattle.varint.specs.declared.Refusal.{Refusal}
 use Rattle.varint.specs.declared.Refusal.the-variants.{Full, Sign}
@@ -21,35 +23,38 @@ use Rattle.varint.specs.declared.ReadU64.the-variants as u64
 use Rattle.varint.specs.declared.ReadI8.the-variants as i8
 use Rattle.varint.specs.declared.ReadSignedI64.the-variants as signed-i64
 use Rattle.varint.specs.declared.Wrote.the-variants as answer
+use Rattle.varint.proofs.Refusing.{AsOne, IntAsOne}
 use Rattle.varint.proofs.Chaining.{refuses, Put, put, put-read, unput}
 
 -- An equation excludes each answer of which something else is said.
 otherwise : {A : Type 0} (said : A → ℕ) {x y : A} → (said x ≡ said y → ⊥) → x ≡ y → ⊥
 otherwise said differs e = differs (ap said e)
 
--- Readers. A refusal gives value 0 and the place as given, whatever the bytes.
-refused-or : (stop : List ℕ → ℕ) (w at n bits s acc p : ℕ) (bs : List ℕ) (x : Answer) → x ≡ reads stop w at n bits s acc p bs → (x .no ≡ 0) ⊎ ((x .value ≡ 0) × (x .place ≡ at))
-unfolding reads
-refused-or stop w at zero bits s acc p bs x e = inr (ap (λ (a : Answer). a .value) e, ap (λ (a : Answer). a .place) e)
-refused-or stop w at (suc n) bits s acc p [] x e = inr (ap (λ (a : Answer). a .value) e, ap (λ (a : Answer). a .place) e)
-refused-or stop w at (suc n) bits s acc p (b ∷ bs) x e = turn (ltb b 128) refl (λ h. refused-or stop w at n 7 (s + bits) _ (p + 1) bs x (rw h at e))
-  where
-    turn : (t : Bool) → ltb b 128 ≡ t → (ltb b 128 ≡ false → (x .no ≡ 0) ⊎ ((x .value ≡ 0) × (x .place ≡ at))) → (x .no ≡ 0) ⊎ ((x .value ≡ 0) × (x .place ≡ at))
-    turn true h more = inl (ap (λ (a : Answer). a .no) (rw h at e))
-    turn false h more = more h
-
-module _ (w at : ℕ) (bytes : List ℕ) {n v p : ℕ} where
-  refusal : record { no = suc n; value = v; place = p } ≡ readAt w bytes at → (v ≡ 0) × (p ≡ at)
-  unfolding readAt
-  refusal e = ⊎-elim (λ (z : suc n ≡ 0). absurd (omega arith)) (λ h. h) (refused-or _ w at 11 7 0 0 at (drop at bytes) _ e)
+-- Readers. Of each contract `Refusing` says that a refusal is as END.
+module _ {at : ℕ} {a : Answer} (g : AsOne at a) {n v p : ℕ} (e : record { no = suc n; value = v; place = p } ≡ a) where
+  refusal : (v ≡ 0) × (p ≡ at)
+  refusal = told g
+    where
+      told : AsOne at a → (v ≡ 0) × (p ≡ at)
+      told (inl d) = let z : suc n ≡ 0 = ap (λ (b : Answer). b .no) e ∙ d in absurd (omega arith)
+      told (inr q) = (ap (λ (b : Answer). b .value) (e ∙ q), ap (λ (b : Answer). b .place) (e ∙ q))
 
   -- a value with a refusal
-  pub value-with-refusal : (v ≡ 0 → ⊥) → record { no = suc n; value = v; place = p } ≡ readAt w bytes at → ⊥
-  value-with-refusal differs e = differs (refusal e .0)
+  pub value-with-refusal : (v ≡ 0 → ⊥) → ⊥
+  value-with-refusal differs = differs (refusal .0)
 
   -- a refusal that moves the place
-  pub moved-by-refusal : (p ≡ at → ⊥) → record { no = suc n; value = v; place = p } ≡ readAt w bytes at → ⊥
-  moved-by-refusal differs e = differs (refusal e .1)
+  pub moved-by-refusal : (p ≡ at → ⊥) → ⊥
+  moved-by-refusal differs = differs (refusal .1)
+
+-- a signed refusal that keeps a value or a flag, or moves the place
+module _ {at : ℕ} {a : IntAnswer} (g : IntAsOne at a) {n p : ℕ} {v : ℤ} {b : Bool} (e : record { no = suc n; value = v; negative = b; place = p } ≡ a) where
+  pub signed-refusal : (v ≡ pos 0) × ((b ≡ false) × (p ≡ at))
+  signed-refusal = told g
+    where
+      told : IntAsOne at a → (v ≡ pos 0) × ((b ≡ false) × (p ≡ at))
+      told (inl d) = let z : suc n ≡ 0 = ap (λ (c : IntAnswer). c .no) e ∙ d in absurd (omega arith)
+      told (inr q) = let f = e ∙ q in (ap (λ (c : IntAnswer). c .value) f, (ap (λ (c : IntAnswer). c .negative) f, ap (λ (c : IntAnswer). c .place) f))
 
 -- an invented next place: AC 02 has two bytes
 pub invented-place : (v p : ℕ) → (p ≡ 2 → ⊥) → said64 0 (u64.Done v p) ≡ readAt 64 (0xAC ∷ 0x02 ∷ []) 0 → ⊥
@@ -82,16 +87,6 @@ wrapped = otherwise (λ (a : IntAnswer). a .no) (λ (z : 0 ≡ 3). omega arith)
 pub lost-flag : saidSignedI64 0 (signed-i64.Done (record { value = pos 0; «is_negative» = false }) 1) ≡ signedAt (0x40 ∷ []) 0 → ⊥
 unfolding signedAt andThen reads
 lost-flag = otherwise (λ (a : IntAnswer). cond (a .negative) 1 0) (λ (z : 0 ≡ 1). omega arith)
-
--- a signed refusal that keeps a value or a flag, or moves the place
-pub signed-refusal : (at : ℕ) (bytes : List ℕ) {n p : ℕ} {v : ℤ} {b : Bool} → record { no = suc n; value = v; negative = b; place = p } ≡ signedAt bytes at
-    → (v ≡ pos 0) × ((b ≡ false) × (p ≡ at))
-unfolding signedAt andThen
-signed-refusal at bytes {n} {p} {v} {b} e = told (eqb (readBy signed bytes at .no) 0) refl
-  where
-    told : (t : Bool) → eqb (readBy signed bytes at .no) 0 ≡ t → (v ≡ pos 0) × ((b ≡ false) × (p ≡ at))
-    told true h = let z : suc n ≡ 0 = ap (λ (a : IntAnswer). a .no) (rw h at e) in absurd (omega arith)
-    told false h = let f = rw h at e in (ap (λ (a : IntAnswer). a .value) f, (ap (λ (a : IntAnswer). a .negative) f, ap (λ (a : IntAnswer). a .place) f))
 
 -- Writers, of whatever bytes ns.
 module _ (ns buf after : List ℕ) (at : ℕ) where
@@ -146,6 +141,16 @@ module _ (buf after : List ℕ) (at : ℕ) where
         told true d = differs (ap (λ (w : Written). w .buffer) (rw d at h))
         told false d = refused-changed _ buf after at e differs (rw d at h)
 
+    -- a refusal that moves the place
+    pub signed-refused-moved : {n p : ℕ} → (p ≡ at → ⊥) → record { no = suc n; place = p; buffer = after } ≡ writeSignedAt minus v buf at → ⊥
+    unfolding writeSignedAt
+    signed-refused-moved differs h = told (wrongSign minus v) refl
+      where
+        told : (t : Bool) → wrongSign minus v ≡ t → ⊥
+        told true d = differs (ap (λ (w : Written). w .place) (rw d at h))
+        told false d = refused-moved _ buf after at differs (rw d at h)
+
+    -- FULL where SIGN is due
     pub full-first : wrongSign minus v ≡ true → wrote at (answer.Refused Full) after ≡ writeSignedAt minus v buf at → ⊥
     full-first due h = let z : _≡_ {A = ℕ} 4 6 = sign-due due h in omega arith
 
@@ -156,18 +161,45 @@ module _ (buf after : List ℕ) (at : ℕ) where
   pub below-unflagged : (n p : ℕ) → wrote at (answer.Done p) after ≡ writeSignedAt false (negsuc n) buf at → ⊥
   below-unflagged n p h = let z : _≡_ {A = ℕ} 0 6 = sign-due false (negsuc n) refl h in omega arith
 
--- Lengths: 0 takes a byte, and 128 takes two.
-pub empty-zero : 0 ≡ length (bytesOf 0) → ⊥
-unfolding bytesOf written
-empty-zero z = omega arith
+some-byte : (bits flag v : ℕ) → 0 ≡ length (written 10 bits flag v) → ⊥
+unfolding written
+some-byte bits flag v e = told (ltb v (2 ^ bits)) refl
+  where
+    told : (t : Bool) → ltb v (2 ^ bits) ≡ t → ⊥
+    told true h = let z = rw h at e in omega arith
+    told false h = let z = rw h at e in omega arith
+
+-- Lengths: every number takes a byte; 128 takes two, and of the signed ones 64.
+pub no-byte : (v : ℕ) → 0 ≡ length (bytesOf v) → ⊥
+unfolding bytesOf
+no-byte v = some-byte 7 0 v
+
+pub no-signed-byte : (v : ℤ) → 0 ≡ length (intBytes v) → ⊥
+unfolding signedBytes
+no-signed-byte v = some-byte 6 _ (natAbs v)
 
 pub eight-bits : 1 ≡ length (bytesOf 128) → ⊥
 unfolding bytesOf written
 eight-bits z = omega arith
 
--- A shift by the width that loses the number, or is not taken modulo the width.
-pub shift-out : 0 ≡ shifted 32 1 32 → ⊥
-shift-out z = omega arith
+pub seven-bits : 1 ≡ length (intBytes (pos 64)) → ⊥
+unfolding signedBytes written
+seven-bits z = omega arith
+
+-- A shift that loses a 1, at any width: no shift does, for it is taken modulo the width.
+pub shift-out : (w s : ℕ) → 0 < w → 0 ≡ shifted w 1 s → ⊥
+shift-out w s wide z =
+    let within = mod-lt s wide in
+    let kept = z ∙ shl-exact 1 (s % w) w (omega arith) (omega arith) in
+    let some = pow-pos (s % w) in
+    omega arith
+
+-- A shift by the width or more that is not taken modulo the width.
+pub shift-unwrapped : (w s : ℕ) → 0 < w → w ≤ s → (1 * 2 ^ s) % 2 ^ w ≡ shifted w 1 s → ⊥
+shift-unwrapped w s wide long e =
+    let k : w + (s - w) ≡ s = omega arith in
+    let h : 1 * 2 ^ s ≡ 2 ^ w * 2 ^ (s - w) = one-mul (2 ^ s) ∙ ap (λ (i : ℕ). 2 ^ i) (sym k) ∙ pow-add 2 w (s - w) in
+    shift-out w s wide (sym (mul-mod-right (2 ^ w) (2 ^ (s - w))) ∙ ap (λ (x : ℕ). x % 2 ^ w) (sym h) ∙ e)
 
 -- The least i64 has magnitude 2^63, and not the greatest i64.
 pub least-magnitude : 2 ^ 63 - 1 ≡ natAbs (negsuc (2 ^ 63 - 1)) → ⊥

@@ -2,9 +2,9 @@
 use Prim.Native.Nat.{ℕ, _-_, _%_, _^_}
 use mathlib.Core.List.{List}
 use mathlib.Core.Bool.{Bool, true, false, cond}
-use lib.Dec.{leb, ltb}
+use lib.Dec.{leb, ltb, eqb}
 use lib.ListN.{getD}
-use lib.IntN.{ℤ, pos, negsuc, natAbs}
+use lib.IntN.{ℤ, pos, natAbs}
 use lib.Signed.{mag, ltZ}
 use mir.Syntax.{w64}
 use mir.Val.{toZ}
@@ -41,9 +41,10 @@ signedAt bytes at =
 abbrev pub plain : IntAnswer → IntAnswer
 plain a = record { no = a .no; value = a .value; negative = false; place = a .place }
 
--- "Narrow widths read as i64, then RANGE": w bits hold 0 to 2 ^ (w - 1) - 1, and below 0 as many. `mag` of -1, -2, .. is 0, 1, ..
+-- "Narrow widths read as i64, then RANGE" (3), where a number was read whole: w bits hold 0 to 2 ^ (w - 1) - 1, and below 0 as many. `mag` of
+-- -1, -2, .. is 0, 1, .. A refusal passes as it is.
 unfoldable pub fitting : ℕ → ℕ → IntAnswer → IntAnswer
-fitting w at a = cond (ltb (mag (a .value)) (2 ^ (w - 1))) a (refusedInt 3 at)
+fitting w at a = cond (eqb (a .no) 0) (cond (ltb (mag (a .value)) (2 ^ (w - 1))) a (refusedInt 3 at)) a
 
 -- "first byte has bit 7 to continue, bit 6 for minus, six bits of the magnitude; then seven bits a byte, shortest form"
 unfoldable pub signedBytes : Bool → ℕ → List ℕ
