@@ -4,7 +4,6 @@ pub mod Below
 pub mod Saying
 pub mod Joining
 pub mod Meaning
-pub mod Merging
 pub mod Counting
 pub mod Spanning
 pub mod Closing
