@@ -8,7 +8,8 @@ use lib.ListN.{length, getD, take}
 use Rattle.tables.specs.Limits.{vectorLimit}
 use Rattle.state_vector.specs.Rows.{Row, row, Rising}
 use Rattle.state_vector.specs.Vectors.{two, held, rowsOf, Table}
-use Rattle.state_vector.specs.Inner.{Climbs, rowAt, span, put}
+use Rattle.tables.specs.Inner.Climb.{Climbs}
+use Rattle.state_vector.specs.Inner.{rowAt, span, put}
 use Rattle.state_vector.proofs.Looking.{look, look-here, look-past, look-append, put-before, put-here, put-behind}
 
 module _ (f : ℕ → Row) where

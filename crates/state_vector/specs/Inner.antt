@@ -19,10 +19,6 @@ use Rattle.state_vector.specs.declared.Decoded.the-variants as decoded
 use Rattle.state_vector.specs.declared.Order.{Order}
 use Rattle.state_vector.specs.declared.Order.the-variants as order
 
--- clients strictly rise, by their indices
-pub record Climbs (cs : List ℕ) (n : ℕ) : Type 0 where
-  pub up : (j : ℕ) → suc j < n → getD cs j 0 < getD cs (suc j) 0
-
 -- where client c has its row, or would have it: rows before are of smaller clients, and no row from there on is
 pub record Finds (cs : List ℕ) (n c i : ℕ) : Type 0 where
   pub within : i ≤ n

@@ -4,6 +4,7 @@ pub mod Below
 pub mod Saying
 pub mod Joining
 pub mod Meaning
+pub mod Climbing
 pub mod Counting
 pub mod Spanning
 pub mod Closing
