@@ -2,6 +2,7 @@
 pub mod Giving
 pub mod Below
 pub mod Saying
+pub mod Unique
 pub mod Joining
 pub mod Meaning
 pub mod Climbing

@@ -23,7 +23,7 @@ combined-at f z a b x = go (split x (max (top a) (top b)))
     go (inr h) = at-top _ {x = x} (omega (arith, b₀ .tops)) ∙ sym (ap₂ f (at-top a {x = x} (omega arith)) (at-top b {x = x} (omega arith)) ∙ z)
 
 pub combined-only : (f : ℕ → ℕ → ℕ) → f 0 0 ≡ 0 → (a b rs : Rows) → Joined rs → ((x : ℕ) → at rs x ≡ f (at a x) (at b x)) → rs ≡ combined f a b
-combined-only f z a b rs j h = unique 0 0 rs (combined f a b) j (combined-joined f a b) (λ x. h x ∙ sym (combined-at f z a b x))
+combined-only f z a b rs j h = unique rs (combined f a b) j (combined-joined f a b) (λ x. h x ∙ sym (combined-at f z a b x))
 
 pub union-comm : (a b : Rows) → combined union a b ≡ combined union b a
 unfolding union
