@@ -15,9 +15,10 @@ ghost use lib.ListN.{length, take};
 ghost use Rattle.tables.specs.Answers.{Says};
 ghost use Rattle.tables.specs.Limits.{vectorLimit};
 ghost use Rattle.tables.specs.Inner.Climb.{Climbs};
+ghost use Rattle.tables.specs.Inner.Rows.{span};
 ghost use Rattle.state_vector.specs.Rows.{row, at, smaller, Set};
 ghost use Rattle.state_vector.specs.Vectors.{two, held, rows, rowsOf, room, Table, filled, Writes, Gets, MinSet, MaxSet, Merged, Compared};
-ghost use Rattle.state_vector.specs.Inner.{Finds, Stands, put, Holds, Opens, Closes, Firsts, element, Stores, Passes, Rests, Fronts, Unites, Nulls, anyLess, Unders, judged, Judges, rowAt, span, Puts, Reads};
+ghost use Rattle.state_vector.specs.Inner.{Finds, Stands, put, Holds, Opens, Closes, Firsts, element, Stores, Passes, Rests, Fronts, Unites, Nulls, anyLess, Unders, judged, Judges, rowAt, Puts, Reads};
 ghost use Rattle.state_vector.specs.Bytes.{rowBytes, encoded, Encoded, pairsAt, saidDecoded, Decodes};
 ghost use Rattle.varint.specs.Number.{bytesOf};
 
