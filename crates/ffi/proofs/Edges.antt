@@ -119,7 +119,7 @@ last-clock-not-in l n r h c = not-so r (last-clock l n h) c
 
 pub last-id-not-in : (cs ss es : List ℕ) (n d : ℕ) (r : YesNo) → ((i : ℕ) → Fits w32 (getD es i 0)) → Crosses (of-ids.Contains (of-ids.held cs ss es n) d 4294967295) asYesNo r
     → r .value ≡ false
-last-id-not-in cs ss es n d r h c = not-so r (ids.last-clock n cs ss es (λ i. omega (arith, h i)) d) c
+last-id-not-in cs ss es n d r h c = not-so r (ids.last-clock n cs ss es h d) c
 
 -- Rows of two clients are never one, though their clocks touch: in any output with room for two, whatever the lengths of its slices.
 module _ (c d s k e : ℕ) (o out : of-ids.Slices) (r : Rows) where

@@ -16,7 +16,7 @@ use Rattle.tables.proofs.Saying.{says-yes, says-no}
 use Rattle.ids.specs.Rows.{Row, Holds}
 use Rattle.ids.specs.Tables.{rowsOf, Has, Among, Rising, Clients}
 use Rattle.ids.specs.Inner.{numberOf, idRow, IdTable, Fresh}
-use Rattle.ids.proofs.Numbering.{idAt, listed, fit, rows-listed, length-rows, Narrow, rises}
+use Rattle.ids.proofs.Numbering.{idAt, fit, rows-span, length-rows, Narrow, rises}
 use Rattle.ids.proofs.Reading.{holds-placed}
 
 pub told-malformed : {ok : Type 0} {right : Bool → Type 0} → (ok → ⊥) → Tells ok right false (saidTold (told.Refused Malformed))
@@ -64,15 +64,15 @@ one-more n i many r a b c d = omega arith
 pub record Counting (cs ss es : List ℕ) (i k many : ℕ) : Type 0 where
   pub behind : List ℕ
   pub rising : Rising (getD cs i 0 ∷ behind)
-  pub exactly : (c : ℕ) → Among (getD cs i 0 ∷ behind) c ↔ Has (listed (idAt cs ss es) i k) c
+  pub exactly : (c : ℕ) → Among (getD cs i 0 ∷ behind) c ↔ Has (span (idAt cs ss es) i k) c
   pub number : many ≡ length (getD cs i 0 ∷ behind)
 
 one-row : (cs ss es : List ℕ) (i : ℕ) → Counting cs ss es i 1 1
-unfolding listed
+unfolding span
 one-row cs ss es i = record { behind = []; rising = tt; exactly = λ c. ((λ h. h), (λ h. h)); number = refl }
 
 more-same : (cs ss es : List ℕ) (j k many : ℕ) → getD cs j 0 ≡ getD cs (suc j) 0 → Counting cs ss es (suc j) k many → Counting cs ss es j (suc k) many
-unfolding listed
+unfolding span
 more-same cs ss es j k many e p =
     record {
       behind = p .behind;
@@ -85,7 +85,7 @@ more-same cs ss es j k many e p =
     }
 
 more-other : (cs ss es : List ℕ) (j k many : ℕ) → getD cs j 0 < getD cs (suc j) 0 → Counting cs ss es (suc j) k many → Counting cs ss es j (suc k) (suc many)
-unfolding listed
+unfolding span
 more-other cs ss es j k many e p =
     record {
       behind = getD cs (suc j) 0 ∷ p .behind;
@@ -123,7 +123,7 @@ module _ (cs ss es : List ℕ) (f : Narrow ss) (n : ℕ) (t : IdTable cs ss es n
       let e : i ≡ 0 = omega arith in
       let d : n - i ≡ n = omega arith in
       let q : Counting cs ss es 0 n many = subst₂ (λ (v w : ℕ). Counting cs ss es v w many) e d p in
-      subst (λ (l : List Row). Clients l many) (sym (rows-listed n cs ss es (fit n cs ss es (omega (arith, t .few)))))
+      subst (λ (l : List Row). Clients l many) (sym (rows-span n cs ss es (fit n cs ss es (omega (arith, t .few)))))
       (record { each = getD cs 0 0 ∷ q .behind; rising = q .rising; exactly = q .exactly; many = q .number })
 
   pub counting-none : n ≡ 0 → Clients (rowsOf n cs ss es) 0

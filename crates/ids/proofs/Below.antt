@@ -1,36 +1,22 @@
 -- "Answers depend only on rows below the count": tables with the same rows get the same answers, whatever else lies in their slices. Assumes nothing.
 use mathlib.Core.Logic.{_⊎_, _↔_}
-use mathlib.Core.Path.{_≡_, sym, subst}
-use mathlib.Core.List.{List, []}
+use mathlib.Core.Path.{_≡_}
+use mathlib.Core.List.{[]}
 use Prim.Native.Nat.{ℕ, _≤_}
 use Rattle.tables.specs.Answers.{Says}
 use Rattle.tables.specs.declared.Made.{Made}
 use Rattle.tables.specs.declared.Told.{Told}
 use Rattle.tables.specs.declared.Counted.{Counted}
-use Rattle.tables.proofs.Below.{Alike, gives-below, tells-below}
+use Rattle.tables.proofs.Below.{Alike, alike-rule, alike-both, gives-below, tells-below}
 use Rattle.ids.specs.Rows.{Row, Within, Holds, Joined, TableOf, union, difference, intersection}
 use Rattle.ids.specs.Tables.{Slices, Held, most, rows, Table, Inserted, Merged, Diffed, Intersected, Captured, Contains, Empty, Clients, Len}
 
 -- the same rows below the count, which fits the slices of both or of neither
 pub record Below (a b : Held) : Type 0 where
-  pub fits : (a .count ≤ most (a .slices)) ↔ (b .count ≤ most (b .slices))
-  pub same : rows a ≡ rows b
-
-back : {a b : Held} → Below a b → Below b a
-back s = record { fits = (s .fits .1, s .fits .0); same = sym (s .same) }
-
-table : {a b : Held} → Below a b → Table a → Table b
-table s t = (s .fits .0 (t .0), subst Joined (s .same) (t .1))
+  pub alike : Alike (a .count ≤ most (a .slices)) (b .count ≤ most (b .slices)) (rows a) (rows b)
 
 one : {a b : Held} → Below a b → Alike (Table a) (Table b) (rows a) (rows b)
-one s = record { rules = (table s, table (back s)); same = s .same }
-
-two : {a a′ b b′ : Held} → Below a a′ → Below b b′ → Alike {A = List Row × List Row} (Table a × Table b) (Table a′ × Table b′) (rows a, rows b) (rows a′, rows b′)
-two s z =
-    record {
-      rules = ((λ t. (table s (t .0), table z (t .1))), (λ t. (table (back s) (t .0), table (back z) (t .1))));
-      same = λ i. (s .same i, z .same i);
-    }
+one s = alike-rule Joined (s .alike)
 
 module _ {a a′ : Held} (s : Below a a′) where
   pub contains-below : (c k : ℕ) (r : Told) → Contains a c k r ↔ Contains a′ c k r
@@ -50,10 +36,10 @@ module _ {a a′ : Held} (s : Below a a′) where
 
 module _ {a a′ b b′ : Held} (s : Below a a′) (z : Below b b′) (o out : Slices) (r : Made) where
   pub merge-below : Merged a b o out r ↔ Merged a′ b′ o out r
-  merge-below = gives-below (λ t. TableOf (union (t .0) (t .1))) (two s z)
+  merge-below = gives-below (λ t. TableOf (union (t .0) (t .1))) (alike-both (one s) (one z))
 
   pub diff-below : Diffed a b o out r ↔ Diffed a′ b′ o out r
-  diff-below = gives-below (λ t. TableOf (difference (t .0) (t .1))) (two s z)
+  diff-below = gives-below (λ t. TableOf (difference (t .0) (t .1))) (alike-both (one s) (one z))
 
   pub intersect-below : Intersected a b o out r ↔ Intersected a′ b′ o out r
-  intersect-below = gives-below (λ t. TableOf (intersection (t .0) (t .1))) (two s z)
+  intersect-below = gives-below (λ t. TableOf (intersection (t .0) (t .1))) (alike-both (one s) (one z))

@@ -2,18 +2,18 @@
 use mathlib.Core.Logic.{_⊎_, inl, inr, ⊎-elim}
 use mathlib.Core.Path.{_≡_, refl, ap, ap₂, sym, subst, _∙_}
 use mathlib.Core.Bool.{Bool, true, false, _&&_, true≢false, false≢true}
-use mathlib.Core.List.{List, [], _∷_, _++_, map}
+use mathlib.Core.List.{List, [], _∷_, _++_}
 use Prim.Native.Nat.{ℕ, zero, suc, _+_, _-_, _≤_, _<_}
 use native.Mathlib.Omega.{arith}
 use native.Mathlib.Numerals.{add-one}
-use lib.ListN.{length, getD, take, drop, replicate, length-map}
+use lib.ListN.{length, getD, take, replicate}
 use mir.Syntax.{w32, w64}
 use mir.Val.{Fits}
-use lib.Seq.{drop-cons}
-use Rattle.tables.specs.Answers.{padded, Says}
+use Rattle.tables.specs.Answers.{Says}
 use Rattle.tables.specs.Inner.Rows as inner
+use Rattle.tables.specs.Inner.Rows.{span}
 use Rattle.tables.proofs.Joining.{split}
-use Rattle.tables.proofs.Spanning.{Links, spanned}
+use Rattle.tables.proofs.Spanning.{Links, spanned, length-span, span-on, padded-column}
 use Rattle.ids.specs.Rows.{Row, row, Before, Joined}
 use Rattle.ids.specs.Tables.{three, held, most, room, rowsOf, filled, Table}
 use Rattle.ids.specs.Inner.{numberOf, idRow, idRows, NoneEmpty, Apart, IdTable, Checked}
@@ -22,21 +22,6 @@ use Rattle.ids.specs.Inner.{numberOf, idRow, idRows, NoneEmpty, Apart, I
 
 abbrev pub idAt : List ℕ → List ℕ → List ℕ → ℕ → Row
 idAt cs ss es i = row (getD cs i 0) (getD ss i 0) (getD es i 0)
-
--- the rows i, .., i + k - 1
-unfoldable pub listed : (ℕ → Row) → ℕ → ℕ → List Row
-listed f i zero = []
-listed f i (suc k) = f i ∷ listed f (suc i) k
-
-listed-on : (f g : ℕ → Row) (i k : ℕ) → ((j : ℕ) → f (suc j) ≡ g j) → listed f (suc i) k ≡ listed g i k
-unfolding listed
-listed-on f g i zero h = refl
-listed-on f g i (suc k) h = ap₂ _∷_ (h i) (listed-on f g (suc i) k h)
-
-pub length-listed : (f : ℕ → Row) (i k : ℕ) → length (listed f i k) ≡ k
-unfolding listed
-length-listed f i zero = refl
-length-listed f i (suc k) = ap suc (length-listed f (suc i) k)
 
 -- three slices have n elements
 pub record Fit (n : ℕ) (cs ss es : List ℕ) : Type 0 where
@@ -47,42 +32,30 @@ pub record Fit (n : ℕ) (cs ss es : List ℕ) : Type 0 where
 pub fit : (n : ℕ) (cs ss es : List ℕ) → n ≤ room (three cs ss es) → Fit n cs ss es
 fit n cs ss es h = record { one = omega arith; two = omega arith; three′ = omega arith }
 
-pub rows-listed : (n : ℕ) (cs ss es : List ℕ) → Fit n cs ss es → rowsOf n cs ss es ≡ listed (idAt cs ss es) 0 n
-unfolding listed
-rows-listed zero cs ss es f = refl
-rows-listed (suc n) [] ss es f = absurd (omega (arith, f .one))
-rows-listed (suc n) (c ∷ cs) [] es f = absurd (omega (arith, f .two))
-rows-listed (suc n) (c ∷ cs) (s ∷ ss) [] f = absurd (omega (arith, f .three′))
-rows-listed (suc n) (c ∷ cs) (s ∷ ss) (e ∷ es) f =
+pub rows-span : (n : ℕ) (cs ss es : List ℕ) → Fit n cs ss es → rowsOf n cs ss es ≡ span (idAt cs ss es) 0 n
+unfolding span
+rows-span zero cs ss es f = refl
+rows-span (suc n) [] ss es f = absurd (omega (arith, f .one))
+rows-span (suc n) (c ∷ cs) [] es f = absurd (omega (arith, f .two))
+rows-span (suc n) (c ∷ cs) (s ∷ ss) [] f = absurd (omega (arith, f .three′))
+rows-span (suc n) (c ∷ cs) (s ∷ ss) (e ∷ es) f =
     ap (λ (l : List Row). row c s e ∷ l)
-    (rows-listed n cs ss es (record { one = omega (arith, f .one); two = omega (arith, f .two); three′ = omega (arith, f .three′) })
-    ∙ sym (listed-on (idAt (c ∷ cs) (s ∷ ss) (e ∷ es)) (idAt cs ss es) 0 n (λ j. refl)))
+    (rows-span n cs ss es (record { one = omega (arith, f .one); two = omega (arith, f .two); three′ = omega (arith, f .three′) })
+    ∙ span-on (idAt cs ss es) (idAt (c ∷ cs) (s ∷ ss) (e ∷ es)) 0 n (λ j _ _. refl))
 
 pub length-rows : (n : ℕ) (cs ss es : List ℕ) → Fit n cs ss es → length (rowsOf n cs ss es) ≡ n
-length-rows n cs ss es f = ap length (rows-listed n cs ss es f) ∙ length-listed (idAt cs ss es) 0 n
-
--- a column of the rows is the slice's front
-column : (f : Row → ℕ) (g : ℕ → Row) (l : List ℕ) (i k : ℕ) → ((j : ℕ) → f (g j) ≡ getD l j 0) → i + k ≤ length l → map f (listed g i k) ≡ take k (drop i l)
-unfolding listed
-column f g l i zero e h = refl
-column f g l i (suc k) e h =
-    ap₂ _∷_ (e i) (column f g l (suc i) k e (omega arith)) ∙ ap (take (suc k)) (sym (drop-cons l i 0 (omega arith)))
-
-pad : (f : Row → ℕ) (g : ℕ → Row) (l : List ℕ) (n len : ℕ) → ((j : ℕ) → f (g j) ≡ getD l j 0) → n ≤ length l
-    → take n l ++ replicate (len - n) 0 ≡ padded len (map f (listed g 0 n))
-pad f g l n len e h =
-    ap₂ (λ (x : List ℕ) (y : ℕ). x ++ replicate (len - y) 0) (sym (column f g l 0 n e (omega arith))) (sym (length-map (listed g 0 n) f ∙ length-listed g 0 n))
+length-rows n cs ss es f = ap length (rows-span n cs ss es f) ∙ length-span (idAt cs ss es) 0 n
 
 -- three columns filled one by one are the slices filled by rows
 pub filled-columns : (n : ℕ) (cs ss es xs ys zs xs′ ys′ zs′ : List ℕ) → Fit n cs ss es
     → xs′ ≡ take n cs ++ replicate (length xs - n) 0 → ys′ ≡ take n ss ++ replicate (length ys - n) 0 → zs′ ≡ take n es ++ replicate (length zs - n) 0
     → three xs′ ys′ zs′ ≡ filled (rowsOf n cs ss es) (three xs ys zs)
 filled-columns n cs ss es xs ys zs xs′ ys′ zs′ f p q u =
-    let a = p ∙ pad (λ (r : Row). r .client) (idAt cs ss es) cs n (length xs) (λ j. refl) (f .one) in
-    let b = q ∙ pad (λ (r : Row). r .start) (idAt cs ss es) ss n (length ys) (λ j. refl) (f .two) in
-    let d = u ∙ pad (λ (r : Row). r .end) (idAt cs ss es) es n (length zs) (λ j. refl) (f .three′) in
-    let t : three xs′ ys′ zs′ ≡ filled (listed (idAt cs ss es) 0 n) (three xs ys zs) = λ i. record { clients = a i; starts = b i; ends = d i } in
-    t ∙ ap (λ (l : List Row). filled l (three xs ys zs)) (sym (rows-listed n cs ss es f))
+    let a = p ∙ padded-column (idAt cs ss es) (λ (r : Row). r .client) cs n (length xs) (λ j. refl) (f .one) in
+    let b = q ∙ padded-column (idAt cs ss es) (λ (r : Row). r .start) ss n (length ys) (λ j. refl) (f .two) in
+    let d = u ∙ padded-column (idAt cs ss es) (λ (r : Row). r .end) es n (length zs) (λ j. refl) (f .three′) in
+    let t : three xs′ ys′ zs′ ≡ filled (span (idAt cs ss es) 0 n) (three xs ys zs) = λ i. record { clients = a i; starts = b i; ends = d i } in
+    t ∙ ap (λ (l : List Row). filled l (three xs ys zs)) (sym (rows-span n cs ss es f))
 
 -- ## The rule of id tables, index by index
 
@@ -108,21 +81,21 @@ module _ (cs ss es : List ℕ) (f : Narrow ss) (g : Narrow es) where
       go (inl h) = omega (arith, g j)
       go (inr h) = omega arith
 
-  joined-up : (i k : ℕ) → ((j : ℕ) → j < i + k → NoneEmpty ss es j) → ((j : ℕ) → j + 1 < i + k → Apart cs ss es j) → Joined (listed (idAt cs ss es) i k)
-  unfolding listed
+  joined-up : (i k : ℕ) → ((j : ℕ) → j < i + k → NoneEmpty ss es j) → ((j : ℕ) → j + 1 < i + k → Apart cs ss es j) → Joined (span (idAt cs ss es) i k)
+  unfolding span
   joined-up i zero a b = tt
   joined-up i (suc zero) a b = (a i (omega arith), tt, tt)
   joined-up i (suc (suc k)) a b =
       (a i (omega arith), before-up i (b i (omega arith)), joined-up (suc i) (suc k) (λ j h. a j (omega arith)) (λ j h. b j (omega arith)))
 
-  filled-down : (i k : ℕ) → Joined (listed (idAt cs ss es) i k) → (j : ℕ) → i ≤ j → j < i + k → NoneEmpty ss es j
-  unfolding listed
+  filled-down : (i k : ℕ) → Joined (span (idAt cs ss es) i k) → (j : ℕ) → i ≤ j → j < i + k → NoneEmpty ss es j
+  unfolding span
   filled-down i zero p j a b = absurd (omega arith)
   filled-down i (suc k) p j a b =
       ⊎-elim (λ l. filled-down (suc i) k (p .2) j l (omega arith)) (λ l. subst (λ (v : ℕ). NoneEmpty ss es v) (let z : i ≡ j = omega arith in z) (p .0)) (split i j)
 
-  apart-down : (i k : ℕ) → Joined (listed (idAt cs ss es) i k) → (j : ℕ) → i ≤ j → j + 1 < i + k → Apart cs ss es j
-  unfolding listed
+  apart-down : (i k : ℕ) → Joined (span (idAt cs ss es) i k) → (j : ℕ) → i ≤ j → j + 1 < i + k → Apart cs ss es j
+  unfolding span
   apart-down i zero p j a b = absurd (omega arith)
   apart-down i (suc zero) p j a b = absurd (omega arith)
   apart-down i (suc (suc k)) p j a b =
@@ -131,11 +104,11 @@ module _ (cs ss es : List ℕ) (f : Narrow ss) (g : Narrow es) where
 
   pub table-up : (n : ℕ) → IdTable cs ss es n → Table (held cs ss es n)
   table-up n t =
-      (t .few, subst Joined (sym (rows-listed n cs ss es (fit n cs ss es (omega (arith, t .few))))) (joined-up 0 n (λ j h. t .filled j (omega arith)) (λ j h. t .apart j (omega arith))))
+      (t .few, subst Joined (sym (rows-span n cs ss es (fit n cs ss es (omega (arith, t .few))))) (joined-up 0 n (λ j h. t .filled j (omega arith)) (λ j h. t .apart j (omega arith))))
 
   pub table-down : (n : ℕ) → Table (held cs ss es n) → IdTable cs ss es n
   table-down n t =
-      let p : Joined (listed (idAt cs ss es) 0 n) = subst Joined (rows-listed n cs ss es (fit n cs ss es (omega (arith, t .0)))) (t .1) in
+      let p : Joined (span (idAt cs ss es) 0 n) = subst Joined (rows-span n cs ss es (fit n cs ss es (omega (arith, t .0)))) (t .1) in
       record {
         few = t .0;
         filled = λ j h. filled-down 0 n p j (omega arith) (omega arith);

@@ -14,7 +14,7 @@ use Rattle.tables.proofs.Sets.{Means, combined-units}
 use Rattle.ids.specs.Rows.{Row, row, Holds, Before, Joined, TableOf}
 use Rattle.ids.specs.Tables.{rowsOf}
 use Rattle.ids.specs.Inner.{numberOf, idRow, idRows, IdTable}
-use Rattle.ids.proofs.Numbering.{idAt, listed, fit, Fit, rows-listed, Narrow, joined}
+use Rattle.ids.proofs.Numbering.{idAt, fit, Fit, rows-span, Narrow, joined}
 
 -- the row of a client that stands at these places
 abbrev pub gather : inner.Row → Row
@@ -30,13 +30,13 @@ row-path : {r s : Row} → r .client ≡ s .client → r .start ≡ s .start →
 row-path o p q = λ i. record { client = o i; start = p i; end = q i }
 
 module _ (cs ss es : List ℕ) (f : Narrow ss) (g : Narrow es) where
-  gathered : (i k : ℕ) → map gather (span (idRow cs ss es) i k) ≡ listed (idAt cs ss es) i k
-  unfolding span listed
+  gathered : (i k : ℕ) → map gather (span (idRow cs ss es) i k) ≡ span (idAt cs ss es) i k
+  unfolding span
   gathered i zero = refl
   gathered i (suc k) = ap₂ _∷_ (row-path (omega (arith, f i)) (omega (arith, f i)) (omega (arith, g i))) (gathered (suc i) k)
 
   pub gather-rows : (n : ℕ) → Fit n cs ss es → map gather (idRows cs ss es n) ≡ rowsOf n cs ss es
-  gather-rows n h = gathered 0 n ∙ sym (rows-listed n cs ss es h)
+  gather-rows n h = gathered 0 n ∙ sym (rows-span n cs ss es h)
 
   kept-from : (i k : ℕ) → Kept (span (idRow cs ss es) i k)
   unfolding span at

@@ -1,12 +1,13 @@
--- "Answers depend only on rows below the count": two tables with the same count and the same rows get the same answers and leave the same, for every routine. Assumes nothing.
-use mathlib.Core.Logic.{_↔_}
+-- "Answers depend only on rows below the count": slices with the same rows below it get the same answers and leave the same, for every routine. Assumes nothing.
+use mathlib.Core.Logic.{_↔_, ⊎-elim}
 use mathlib.Core.Path.{_≡_, refl, ap, sym, subst, _∙_}
 use mathlib.Core.List.{List, [], _∷_}
 use Prim.Native.Nat.{ℕ, zero, suc, _/_, _≤_}
 use native.Mathlib.Omega.{arith}
 use lib.ListN.{length, take}
 use Rattle.tables.specs.Answers.{Answer, Says}
-use Rattle.tables.proofs.Below.{Alike, gives-below, tells-below}
+use Rattle.tables.proofs.Joining.{split}
+use Rattle.tables.proofs.Below.{Alike, alike-back, alike-rule, alike-both, gives-below, tells-below}
 use Rattle.tables.specs.declared.Made.{Made}
 use Rattle.tables.specs.declared.Told.{Told}
 use Rattle.tables.specs.declared.Counted.{Counted}
@@ -16,26 +17,16 @@ use Rattle.ranges.specs.declared.Found.{Found}
 use Rattle.ranges.specs.Rows.{Row, row, Holds, Joined, TableOf, union, difference, intersection, findStart, clockStart, clockEnd, get}
 use Rattle.ranges.specs.Tables.{rows, Table, Merged, Excluded, Intersected, Inserted, Removed, After, Fills, done, full, malformed, FromRanges, ContainsClock, FindStart, ClockStart, ClockEnd, Len, IsEmpty, Get}
 
+-- the same rows below the count, which fits both slices or neither
 pub record Below (l l′ : List ℕ) (n : ℕ) : Type 0 where
-  pub fits : n ≤ length l / 2
-  pub fits′ : n ≤ length l′ / 2
-  pub same : rows l n ≡ rows l′ n
+  pub alike : Alike (n ≤ length l / 2) (n ≤ length l′ / 2) (rows l n) (rows l′ n)
 
-below-back : {l l′ : List ℕ} {n : ℕ} → Below l l′ n → Below l′ l n
-below-back b = record { fits = b .fits′; fits′ = b .fits; same = sym (b .same) }
-
-table-below : {l l′ : List ℕ} {n : ℕ} → Below l l′ n → Table l n → Table l′ n
-table-below b t = (omega (arith, t .0, b .fits′), subst (λ (rs : List Row). Joined rs) (b .same) (t .1))
+back : {l l′ : List ℕ} {n : ℕ} → Below l l′ n → Below l′ l n
+back b = record { alike = alike-back (b .alike) }
 
 one : {l l′ : List ℕ} {n : ℕ} → Below l l′ n → Alike (Table l n) (Table l′ n) (rows l n) (rows l′ n)
-one b = record { rules = (table-below b, table-below (below-back b)); same = b .same }
-
-two : {a a′ b b′ : List ℕ} {n m : ℕ} → Below a a′ n → Below b b′ m → Alike {A = List Row × List Row} (Table a n × Table b m) (Table a′ n × Table b′ m) (rows a n, rows b m) (rows a′ n, rows b′ m)
-two p q =
-    record {
-      rules = (λ t. (table-below p (t .0), table-below q (t .1)), λ t. (table-below (below-back p) (t .0), table-below (below-back q) (t .1)));
-      same = λ i. (p .same i, q .same i);
-    }
+one b =
+    alike-rule Joined (record { rules = (λ h. omega (arith, b .alike .rules .0 (omega arith)), λ h. omega (arith, b .alike .rules .1 (omega arith))); same = b .alike .same })
 
 -- ## Each routine
 
@@ -69,13 +60,13 @@ module _ {l l′ : List ℕ} {n : ℕ} (b : Below l l′ n) where
 
 module _ {a a′ b b′ : List ℕ} {n m : ℕ} (p : Below a a′ n) (q : Below b b′ m) (len : ℕ) (out : List ℕ) (r : Made) where
   pub merge-below : Merged a n b m len out r ↔ Merged a′ n b′ m len out r
-  merge-below = gives-below (λ t. TableOf (union (t .0) (t .1))) (two p q)
+  merge-below = gives-below (λ t. TableOf (union (t .0) (t .1))) (alike-both (one p) (one q))
 
   pub exclude-below : Excluded a n b m len out r ↔ Excluded a′ n b′ m len out r
-  exclude-below = gives-below (λ t. TableOf (difference (t .0) (t .1))) (two p q)
+  exclude-below = gives-below (λ t. TableOf (difference (t .0) (t .1))) (alike-both (one p) (one q))
 
   pub intersect-below : Intersected a n b m len out r ↔ Intersected a′ n b′ m len out r
-  intersect-below = gives-below (λ t. TableOf (intersection (t .0) (t .1))) (two p q)
+  intersect-below = gives-below (λ t. TableOf (intersection (t .0) (t .1))) (alike-both (one p) (one q))
 
 -- of `from_ranges`, whose pairs need not be a table
 take-rows : (l : List ℕ) (n i : ℕ) → i ≤ n → take i (rows l n) ≡ rows l i
@@ -87,12 +78,12 @@ take-rows (s ∷ []) (suc n) (suc i) h = refl
 take-rows (s ∷ e ∷ l) (suc n) (suc i) h = ap (λ (t : List Row). row s e ∷ t) (take-rows l n i (omega arith))
 
 after-below : {l l′ : List ℕ} {n : ℕ} → Below l l′ n → (i : ℕ) (t : List Row) → i ≤ n → After l i t → After l′ i t
-after-below {l} {l′} {n} b i t h = subst (λ (rs : List Row). TableOf (Holds rs) t) (sym (take-rows l n i h) ∙ (ap (take i) (b .same) ∙ take-rows l′ n i h))
+after-below {l} {l′} {n} b i t h = subst (λ (rs : List Row). TableOf (Holds rs) t) (sym (take-rows l n i h) ∙ (ap (take i) (b .alike .same) ∙ take-rows l′ n i h))
 
 fills-below : {l l′ : List ℕ} {n len : ℕ} {out : List ℕ} {a : Answer ℕ} → Below l l′ n → Fills l n len out a → Fills l′ n len out a
-fills-below b (done t h p s e f) = done t (b .fits′) (after-below b _ t (omega arith) p) (λ i k u q. s i k u (after-below (below-back b) i u k q)) e f
-fills-below b (full i u h k q m e f) = full i u (b .fits′) k (after-below b i u k q) m e f
-fills-below b (malformed h e f) = absurd (omega (arith, b .fits))
+fills-below b (done t h p s e f) = done t (b .alike .rules .0 h) (after-below b _ t (omega arith) p) (λ i k u q. s i k u (after-below (back b) i u k q)) e f
+fills-below b (full i u h k q m e f) = full i u (b .alike .rules .0 h) k (after-below b i u k q) m e f
+fills-below {l′ = l′} {n = n} b (malformed h e f) = malformed (⊎-elim (λ m. m) (λ m. absurd (omega (arith, b .alike .rules .1 m))) (split (length l′ / 2) n)) e f
 
 pub from-ranges-below : {l l′ : List ℕ} {n : ℕ} → Below l l′ n → (len : ℕ) (out : List ℕ) (r : Made) → FromRanges l n len out r ↔ FromRanges l′ n len out r
-from-ranges-below b len out r = (fills-below b, fills-below (below-back b))
+from-ranges-below b len out r = (fills-below b, fills-below (back b))

@@ -82,7 +82,7 @@ same-weight {A} {v} {w} a b p q = ⊎-elim
 pub table-one : (clocks : ℕ → Type 0) (t u : List Row) → TableOf clocks t → TableOf clocks u → t ≡ u
 table-one clocks t u p q =
     let e : map plain t ≡ map plain u
-    = unique 0 0 (map plain t) (map plain u) (plain-joined t (p .0)) (plain-joined u (q .0)) (λ x. same-weight {A = clocks x} (plain-unit t x) (plain-unit u x)
+    = unique (map plain t) (map plain u) (plain-joined t (p .0)) (plain-joined u (q .0)) (λ x. same-weight {A = clocks x} (plain-unit t x) (plain-unit u x)
     (λ h. holds-plain t x .0 (p .1 x .1 h), λ h. p .1 x .0 (holds-plain t x .1 h))
     (λ h. holds-plain u x .0 (q .1 x .1 h), λ h. q .1 x .0 (holds-plain u x .1 h))) in
     sym (bare-plain t) ∙ (ap (λ (l : inner.Rows). map bare l) e ∙ bare-plain u)

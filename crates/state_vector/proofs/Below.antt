@@ -1,43 +1,32 @@
--- "Answers depend only on rows below the count." Two vectors with the same count and the same rows get the same promise from every routine that reads
--- one, whatever else stands in their slices. Assumes nothing.
-use mathlib.Core.Path.{_≡_, ap, sym, subst, _∙_}
+-- "Answers depend only on rows below the count": vectors with the same rows get the same promise from every routine that reads one, whatever else stands in
+-- their slices. Assumes nothing.
+use mathlib.Core.Path.{_≡_, ap, subst, _∙_}
 use mathlib.Core.Logic.{_↔_}
 use mathlib.Core.List.{List}
 use Prim.Native.Nat.{ℕ, _≤_}
-use native.Mathlib.Omega.{arith}
-use Rattle.tables.proofs.Below.{Alike, gives-below, tells-below}
+use Rattle.tables.proofs.Below.{Alike, alike-back, alike-both, gives-below, tells-below}
 use Rattle.tables.specs.declared.Made.{Made}
 use Rattle.varint.specs.Number.{Written, writeAt}
 use Rattle.varint.specs.declared.Wrote.{Wrote}
 use Rattle.state_vector.specs.Rows.{Row, at, Rising, SetMin, SetMax, Merge, Compare}
-use Rattle.state_vector.specs.Vectors.{Slices, Held, rows, room, Table, Gets, MinSet, MaxSet, Merged, Compared}
+use Rattle.state_vector.specs.Vectors.{Slices, Held, rows, most, Table, Gets, MinSet, MaxSet, Merged, Compared}
 use Rattle.state_vector.specs.Bytes as bytes
 use Rattle.state_vector.specs.Bytes.{encoded, Encodes, writes, Encoded}
 use Rattle.state_vector.specs.declared.Got.{Got}
 use Rattle.state_vector.specs.declared.Order.{Order}
 
--- the same rows below the same count, which each has room for
+-- the same rows below the count, which fits the slices of both or of neither
 pub record Below (a b : Held) : Type 0 where
-  pub count : a .count ≡ b .count
-  pub left : a .count ≤ room (a .slices)
-  pub right : b .count ≤ room (b .slices)
-  pub same : rows a ≡ rows b
+  pub alike : Alike (a .count ≤ most (a .slices)) (b .count ≤ most (b .slices)) (rows a) (rows b)
 
 back : {a b : Held} → Below a b → Below b a
-back s = record { count = sym (s .count); left = s .right; right = s .left; same = sym (s .same) }
+back s = record { alike = alike-back (s .alike) }
 
 table : {a b : Held} → Below a b → Table a → Table b
-table s t = record { few = omega (arith, t .few, s .count, s .right); rising = subst Rising (s .same) (t .rising) }
+table s t = record { few = s .alike .rules .0 (t .few); rising = subst Rising (s .alike .same) (t .rising) }
 
 one : {a b : Held} → Below a b → Alike (Table a) (Table b) (rows a) (rows b)
-one s = record { rules = (table s, table (back s)); same = s .same }
-
-two : {a a′ b b′ : Held} → Below a a′ → Below b b′ → Alike {A = List Row × List Row} (Table a × Table b) (Table a′ × Table b′) (rows a, rows b) (rows a′, rows b′)
-two s u =
-    record {
-      rules = ((λ t. (table s (t .0), table u (t .1))), (λ t. (table (back s) (t .0), table (back u) (t .1))));
-      same = λ i. (s .same i, u .same i);
-    }
+one s = record { rules = (table s, table (back s)); same = s .alike .same }
 
 -- ## Each routine that reads a vector
 
@@ -52,7 +41,7 @@ module _ {a b : Held} (s : Below a b) where
   set-max-below c k o out r = gives-below (λ t. SetMax t c k) (one s)
 
   encodes : {buf : List ℕ} {place : ℕ} {w : Written} → Encodes a buf place w → Encodes b buf place w
-  encodes {buf} {place} (writes t e) = writes (table s t) (e ∙ ap (λ (l : List Row). writeAt (encoded l) buf place) (s .same))
+  encodes {buf} {place} (writes t e) = writes (table s t) (e ∙ ap (λ (l : List Row). writeAt (encoded l) buf place) (s .alike .same))
   encodes (bytes.malformed n e) = bytes.malformed (λ t. n (table (back s) t)) e
 
 pub encode-below : {a b : Held} → Below a b → (buf : List ℕ) (place : ℕ) (r : Wrote) (after : List ℕ) → Encoded a buf place r after ↔ Encoded b buf place r after
@@ -60,7 +49,7 @@ encode-below s buf place r after = (encodes s, encodes (back s))
 
 module _ {a a′ b b′ : Held} (s : Below a a′) (u : Below b b′) where
   pub merge-below : (o out : Slices) (r : Made) → Merged a b o out r ↔ Merged a′ b′ o out r
-  merge-below o out r = gives-below (λ t. Merge (t .0) (t .1)) (two s u)
+  merge-below o out r = gives-below (λ t. Merge (t .0) (t .1)) (alike-both (one s) (one u))
 
   pub partial-cmp-below : (r : Order) → Compared a b r ↔ Compared a′ b′ r
-  partial-cmp-below r = tells-below (λ t. Compare (t .0) (t .1)) (two s u)
+  partial-cmp-below r = tells-below (λ t. Compare (t .0) (t .1)) (alike-both (one s) (one u))

@@ -20,11 +20,13 @@ use Rattle.varint.proofs.Chaining.{done64, refused64, done32, refused32}
 use Rattle.state_vector.specs.Rows.{Row, row, In, at, Rising, VectorOf}
 use Rattle.state_vector.specs.Vectors.{Slices, held, rowsOf, most, Table, filled}
 use Rattle.state_vector.specs.Bytes.{stored, Pairs, stop, pairsAt, vectorAt, decoding, saidDecoded, Decodes, done, refused}
-use Rattle.state_vector.specs.Inner.{rowAt, span, put, Holds, Reads, all, none}
+use Rattle.tables.specs.Inner.Rows.{span}
+use Rattle.state_vector.specs.Inner.{rowAt, put, Holds, Reads, all, none}
 use Rattle.state_vector.specs.declared.Decoded.{Decoded}
 use Rattle.state_vector.specs.declared.Decoded.the-variants as decoded
 use Rattle.state_vector.proofs.Looking.{look, look-here, look-past, same-or-not, at-look, in-look, look-in, look-put-same, look-put-other, put-rising, length-put-new, length-put-old}
-use Rattle.state_vector.proofs.Spanning.{rows-span, length-span}
+use Rattle.tables.proofs.Spanning.{length-span}
+use Rattle.state_vector.proofs.Spanning.{rows-span}
 use Rattle.state_vector.proofs.Storing.{filled-same}
 
 -- ## The rows of the pairs so far

@@ -17,8 +17,10 @@ use Rattle.varint.proofs.Writing.{bytes-most}
 use Rattle.state_vector.specs.Rows.{Row}
 use Rattle.state_vector.specs.Vectors.{Slices, two, Held, held, rowsOf, rows, Table}
 use Rattle.state_vector.specs.Bytes.{rowBytes, encoded, Typed}
-use Rattle.state_vector.specs.Inner.{rowAt, span, Puts}
-use Rattle.state_vector.proofs.Spanning.{length-span, span-cons, span-none, table-span, length-rows}
+use Rattle.tables.specs.Inner.Rows.{span}
+use Rattle.state_vector.specs.Inner.{rowAt, Puts}
+use Rattle.tables.proofs.Spanning.{length-span, span-none}
+use Rattle.state_vector.proofs.Spanning.{span-next, table-span, length-rows}
 
 -- ## How many
 
@@ -74,7 +76,7 @@ start-bytes f n =
 
 next-bytes : (f : ℕ → Row) (n i : ℕ) → i < n → rowBytes (span f i (n - i)) ≡ bytesOf (f i .client) ++ bytesOf (f i .clock) ++ rowBytes (span f (i + 1) (n - (i + 1)))
 unfolding rowBytes
-next-bytes f n i h = ap rowBytes (span-cons f n i h)
+next-bytes f n i h = ap rowBytes (span-next f n i h)
 
 pub summing-none : (f : ℕ → Row) (n sum : ℕ) → n ≤ vectorLimit → sum ≡ length (bytesOf n) → Summing f n 0 sum
 summing-none f n sum h e = record {

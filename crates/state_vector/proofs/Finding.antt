@@ -15,7 +15,8 @@ use Rattle.tables.specs.Answers.{full}
 use Rattle.tables.specs.declared.Made.the-variants as made
 use Rattle.state_vector.specs.Inner.{Finds, Stands, Firsts, element, rowAt, put, Holds, Opens}
 use Rattle.state_vector.proofs.Looking.{look, same-or-not, at-look, length-put-new, length-put-old, set-right}
-use Rattle.state_vector.proofs.Spanning.{rows-span, span-same, look-none, look-found, put-found, put-new, table-span, length-rows, table-rising, table-climbs}
+use Rattle.tables.proofs.Spanning.{span-same}
+use Rattle.state_vector.proofs.Spanning.{rows-span, look-none, look-found, put-found, put-new, table-span, length-rows, table-rising, table-climbs}
 use Rattle.state_vector.proofs.Loops.{climbs-less}
 use Rattle.state_vector.proofs.Storing.{row-of}
 use Rattle.varint.proofs.Writing.{lt-or-ge}

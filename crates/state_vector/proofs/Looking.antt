@@ -1,5 +1,5 @@
 -- A vector by its clients' clocks: there is one, and what `put`, a row behind and two vectors side by side read. Assumes nothing.
-use mathlib.Core.Path.{_≡_, refl, ap, ap₂, sym, subst, _∙_}
+use mathlib.Core.Path.{_≡_, refl, ap, sym, subst, _∙_}
 use mathlib.Core.Logic.{_⊎_, inl, inr, ⊎-elim}
 use mathlib.Core.List.{List, [], _∷_, _++_}
 use mathlib.Core.Bool.{Bool, true, false, cond}
@@ -8,7 +8,7 @@ use native.Mathlib.Omega.{arith}
 use borrow.Author.Tests.{ltb-true, ltb-false, eqb-true, eqb-false, eq-eqb, ne-eqb, lt-ltb, le-ltb}
 use lib.Dec.{eqb, ltb}
 use lib.ListN.{length}
-use Rattle.varint.proofs.Writing.{lt-or-ge}
+use Rattle.tables.proofs.Unique.{Kind, rows-one}
 use Rattle.state_vector.specs.Rows.{Row, row, In, at, First, Rising, VectorOf, Set, Merge}
 use Rattle.state_vector.specs.Inner.{put}
 
@@ -32,6 +32,12 @@ module _ (r : Row) (rs : List Row) (c : ℕ) where
   pub look-past : (c ≡ r .client → ⊥) → look (r ∷ rs) c ≡ look rs c
   unfolding look
   look-past n = rw (ne-eqb _ _ n)
+
+  at-here : c ≡ r .client → at (r ∷ rs) c ≡ r .clock
+  at-here e = rw (eq-eqb _ _ e)
+
+  at-past : (c ≡ r .client → ⊥) → at (r ∷ rs) c ≡ at rs c
+  at-past n = rw (ne-eqb _ _ n)
 
 at-pick : (b : Bool) (k u v : ℕ) → u ≡ v - 1 → cond b k u ≡ cond b (suc k) v - 1
 at-pick true k u v e = omega arith
@@ -64,35 +70,38 @@ over r (s ∷ t) c h f g = look-past s t c (λ e. omega arith) ∙ over s t c (o
 
 -- ## There is one
 
-unique-step : (r s : Row) (t u : List Row) → Rising (r ∷ t) → Rising (s ∷ u) → ((c : ℕ) → look (r ∷ t) c ≡ look (s ∷ u) c) → s .client ≤ r .client
-unique-step r s t u g h f = ⊎-elim (λ (l : r .client < s .client).
-    absurd (let z : ⊥ = omega (arith, look-here r t (r .client) refl, f (r .client), look-past s u (r .client) (λ e. omega arith), over s u (r .client) (omega arith) (h .0) (h .1)) in z))
-    (λ l. l) (lt-or-ge (r .client) (s .client))
+row-path : {r s : Row} → r .client ≡ s .client → r .clock ≡ s .clock → r ≡ s
+row-path e d = λ i. record { client = e i; clock = d i }
 
-pub unique : (t u : List Row) → Rising t → Rising u → ((c : ℕ) → look t c ≡ look u c) → t ≡ u
-unfolding look
-unique [] [] g h f = refl
-unique [] (s ∷ u) g h f = absurd (let z : ⊥ = omega (arith, f (s .client), look-here s u (s .client) refl) in z)
-unique (r ∷ t) [] g h f = absurd (let z : ⊥ = omega (arith, f (r .client), look-here r t (r .client) refl) in z)
-unique (r ∷ t) (s ∷ u) g h f =
-    let a = unique-step r s t u g h f in
-    let b = unique-step s r u t h g (λ c. sym (f c)) in
-    let e : r .client ≡ s .client = omega arith in
-    let k : r .clock ≡ s .clock = omega (arith, look-here r t (r .client) refl, f (r .client), look-here s u (r .client) e) in
-    ap₂ _∷_ (λ i. record { client = e i; clock = k i })
-    (unique t u (g .1) (h .1) (λ c. ⊎-elim (λ (q : c ≡ r .client). over r t c (omega arith) (g .0) (g .1) ∙ sym (over s u c (omega arith) (h .0) (h .1)))
-    (λ n. sym (look-past r t c n) ∙ f c ∙ look-past s u c (λ q. n (q ∙ sym e))) (same-or-not c (r .client))))
+kind : Kind Row (ℕ × ℕ)
+kind =
+    record {
+      Joined = Rising;
+      Holds = λ t p. In t (p .0) × (at t (p .0) ≡ p .1);
+      In = λ r p. (p .0 ≡ r .client) × (p .1 ≡ r .clock);
+      Past = λ r p. r .client < p .0;
+      none = λ p h. h .0;
+      cons = λ r t g p. (
+        λ h. ⊎-elim (λ (e : p .0 ≡ r .client). inl (e, sym (h .1) ∙ at-here r t (p .0) e))
+            (λ n. inr (⊎-elim (λ e. absurd (n e)) (λ i. i) (h .0), sym (at-past r t (p .0) n) ∙ h .1)) (same-or-not (p .0) (r .client)),
+        ⊎-elim (λ i. (inl (i .0), at-here r t (p .0) (i .0) ∙ sym (i .1)))
+            (λ h. (inr (h .0), at-past r t (p .0) (λ e. omega (arith, over r t (p .0) (omega arith) (g .0) (g .1), in-look t (p .0) (h .0))) ∙ h .1)),
+      );
+      some = λ r t g. ((r .client, r .clock), (refl, refl));
+      tail = λ r t g. g .1;
+      next = λ r s t g p. ⊎-elim (λ i. omega (arith, i .0, g .0)) (λ o. omega (arith, g .0));
+      apart = λ r p i o. omega (arith, i .0);
+      same = λ r s _ _ f g. ⊎-elim (λ i. row-path (i .0) (i .1))
+          (λ o. absurd (⊎-elim (λ i. omega (arith, i .0)) (λ q. omega arith) (g (s .client, s .clock) (refl, refl)))) (f (r .client, r .clock) (refl, refl));
+    }
 
 -- ANY TWO VECTORS OF THE SAME CLIENTS WITH THE SAME CLOCKS COINCIDE
 pub vector-one : {ks : ℕ → Type 0} {f : ℕ → ℕ} (t u : List Row) → VectorOf ks f t → VectorOf ks f u → t ≡ u
-vector-one {ks} {f} t u v w = unique t u (v .rising) (w .rising) (λ c. go c)
+unfolding kind
+vector-one {ks} {f} t u v w = rows-one kind t u (v .rising) (w .rising) (λ p. (held v w p, held w v p))
   where
-    yes : (c : ℕ) → ks c → look t c ≡ look u c
-    yes c k = omega (arith, in-look t c (v .keys c .1 k), in-look u c (w .keys c .1 k), at-look t c, at-look u c, v .clocks c k, w .clocks c k)
-
-    go : (c : ℕ) → look t c ≡ look u c
-    go c = ⊎-elim (λ (e : look t c ≡ 0). ⊎-elim (λ (d : look u c ≡ 0). e ∙ sym d) (λ n. yes c (w .keys c .0 (look-in u c (omega arith)))) (same-or-not (look u c) 0))
-        (λ n. yes c (v .keys c .0 (look-in t c (omega arith)))) (same-or-not (look t c) 0)
+    held : {t u : List Row} → VectorOf ks f t → VectorOf ks f u → (p : ℕ × ℕ) → In t (p .0) × (at t (p .0) ≡ p .1) → In u (p .0) × (at u (p .0) ≡ p .1)
+    held v w p h = let k = v .keys (p .0) .0 (h .0) in (w .keys (p .0) .1 k, w .clocks (p .0) k ∙ (sym (v .clocks (p .0) k) ∙ h .1))
 
 -- ## Two parts of one vector
 

@@ -9,49 +9,9 @@ use lib.Dec.{eqb, ltb}
 use lib.ListN.{length, getD, set}
 use lib.Seq.{getD-set-same, getD-set-other}
 use borrow.Author.Tests.{ltb-true, ltb-false, le-ltb, eqb-true, eqb-false, eq-eqb, ne-eqb}
-use Rattle.tables.specs.Answers.{Says}
-use Rattle.state_vector.specs.Inner.{Climbs, Finds, Firsts, Opens, Nulls, anyLess, Unders}
+use Rattle.tables.specs.Inner.Climb.{Climbs}
+use Rattle.state_vector.specs.Inner.{Finds, Firsts, Opens, Nulls, anyLess, Unders}
 use Rattle.state_vector.proofs.Looking.{same-or-not}
-
--- ## Clients that rise
-
-pub record Rose (cs : List ℕ) (n i : ℕ) (ok : Bool) : Type 0 where
-  pub some : 1 ≤ i
-  pub good : ok ≡ true → Climbs cs i
-  pub bad : ok ≡ false → Climbs cs n → ⊥
-
-pub rose-none : (cs : List ℕ) (n : ℕ) → Rose cs n 1 true
-rose-none cs n = record { some = omega arith; good = λ e. record { up = λ j h. absurd (omega arith) }; bad = λ e. absurd (true≢false e) }
-
-less-at : (l : List ℕ) {p q p′ q′ : ℕ} → p ≡ p′ → q ≡ q′ → getD l p 0 < getD l q 0 → getD l p′ 0 < getD l q′ 0
-less-at l a b h = subst₂ (λ (x y : ℕ). getD l x 0 < getD l y 0) a b h
-
-pub rose-more : {cs : List ℕ} {n i : ℕ} (ok : Bool) → Rose cs n i ok → i < n → Rose cs n (i + 1) (ok && ltb (getD cs (i - 1) 0) (getD cs i 0))
-rose-more {cs} {n} {i} true c h = go (ltb (getD cs (i - 1) 0) (getD cs i 0)) refl
-  where
-    go : (t : Bool) → ltb (getD cs (i - 1) 0) (getD cs i 0) ≡ t → Rose cs n (i + 1) t
-    go true e =
-        record {
-          some = omega arith;
-          good = λ _. record {
-            up = λ k m. ⊎-elim
-                (λ (a : suc k ≡ i). less-at cs (let z : i - 1 ≡ k = omega arith in z) (sym a) (ltb-true (getD cs (i - 1) 0) (getD cs i 0) e))
-                (λ a. c .good refl .up k (omega arith)) (same-or-not (suc k) i);
-          };
-          bad = λ z. absurd (true≢false z);
-        }
-    go false e =
-        record {
-          some = omega arith;
-          good = λ z. absurd (false≢true z);
-          bad = λ _ t. let s = c .some in
-              let u : getD cs (i - 1) 0 < getD cs i 0 = less-at cs refl (let z : suc (i - 1) ≡ i = omega arith in z) (t .up (i - 1) (omega arith)) in
-              omega (arith, ltb-false (getD cs (i - 1) 0) (getD cs i 0) e);
-        }
-rose-more {cs} {n} {i} false c h = record { some = omega (arith, c .some); good = λ z. absurd (false≢true z); bad = c .bad }
-
-pub rose-all : {cs : List ℕ} {n i : ℕ} (ok : Bool) → Rose cs n i ok → n ≤ i → Says (Climbs cs n) ok
-rose-all ok c h = record { right = λ e. record { up = λ j l. c .good e .up j (omega arith) }; wrong = c .bad }
 
 -- ## The place of a client
 

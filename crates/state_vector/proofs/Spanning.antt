@@ -1,41 +1,23 @@
 -- The rows of two slices, by their index. Assumes nothing.
 use mathlib.Core.Path.{_≡_, refl, ap, ap₂, sym, subst, _∙_}
-use mathlib.Core.List.{List, [], _∷_, _++_, map}
+use mathlib.Core.List.{List, [], _∷_, _++_}
 use Prim.Native.Nat.{ℕ, zero, suc, _+_, _-_, _≤_, _<_}
 use native.Mathlib.Nat.{le-of-suc-le-suc, not-suc-le-zero, add-zero}
 use native.Mathlib.Omega.{arith}
-use lib.ListN.{length, getD, take}
+use lib.ListN.{length, getD}
 use Rattle.tables.specs.Limits.{vectorLimit}
+use Rattle.tables.proofs.Spanning.{length-span, span-cons, span-append, span-same, span-on}
 use Rattle.state_vector.specs.Rows.{Row, row, Rising}
 use Rattle.state_vector.specs.Vectors.{two, held, rowsOf, Table}
-use Rattle.state_vector.specs.Inner.{Climbs, rowAt, span, put}
+use Rattle.tables.specs.Inner.Climb.{Climbs}
+use Rattle.tables.specs.Inner.Rows.{span}
+use Rattle.state_vector.specs.Inner.{rowAt, put}
 use Rattle.state_vector.proofs.Looking.{look, look-here, look-past, look-append, put-before, put-here, put-behind}
 
 module _ (f : ℕ → Row) where
-  pub length-span : (i k : ℕ) → length (span f i k) ≡ k
-  unfolding span
-  length-span i zero = refl
-  length-span i (suc k) = ap suc (length-span (suc i) k)
-
   -- the row at i, and those behind it
-  pub span-cons : (n i : ℕ) → i < n → span f i (n - i) ≡ f i ∷ span f (i + 1) (n - (i + 1))
-  unfolding span
-  span-cons n i h = ap (span f i) (let e : n - i ≡ suc (n - (i + 1)) = omega arith in e) ∙ ap (λ (j : ℕ). f i ∷ span f j (n - (i + 1))) (let e : suc i ≡ i + 1 = omega arith in e)
-
-  pub span-none : (n i : ℕ) → n ≤ i → span f i (n - i) ≡ []
-  unfolding span
-  span-none n i h = ap (span f i) (let e : n - i ≡ 0 = omega arith in e)
-
-  pub span-append : (i k m : ℕ) → span f i (k + m) ≡ span f i k ++ span f (i + k) m
-  unfolding span
-  span-append i zero m = ap₂ (span f) (let e : i ≡ i + 0 = omega arith in e) (let e : 0 + m ≡ m = omega arith in e)
-  span-append i (suc k) m =
-      ap (span f i) (let e : suc k + m ≡ suc (k + m) = omega arith in e)
-      ∙ ap (λ (l : List Row). f i ∷ l) (span-append (suc i) k m ∙ ap (λ (j : ℕ). span f (suc i) k ++ span f j m) (let e : suc i + k ≡ i + suc k = omega arith in e))
-
-  pub span-snoc : (k : ℕ) → span f 0 (k + 1) ≡ span f 0 k ++ (f k ∷ [])
-  unfolding span
-  span-snoc k = span-append 0 k 1 ∙ ap (λ (j : ℕ). span f 0 k ++ (f j ∷ [])) (let e : 0 + k ≡ k = omega arith in e)
+  pub span-next : (n i : ℕ) → i < n → span f i (n - i) ≡ f i ∷ span f (i + 1) (n - (i + 1))
+  span-next n i h = span-cons f n i h ∙ ap (λ (j : ℕ). f i ∷ span f j (n - j)) (let e : suc i ≡ i + 1 = omega arith in e)
 
   -- rows that rise
   pub span-rising : (i k : ℕ) → ((j : ℕ) → i ≤ j → suc j < i + k → f j .client < f (suc j) .client) → Rising (span f i k)
@@ -62,10 +44,10 @@ module _ (f : ℕ → Row) where
   pub look-found : (c i n : ℕ) → Rising (span f 0 n) → i < n → c ≡ f i .client → ((j : ℕ) → j < i → f j .client < c) → look (span f 0 n) c ≡ suc (f i .clock)
   look-found c i n g h e b =
       let s : span f 0 n ≡ span f 0 i ++ span f i (n - i) =
-      ap (span f 0) (let q : n ≡ i + (n - i) = omega arith in q) ∙ span-append 0 i (n - i) ∙ ap (λ (j : ℕ). span f 0 i ++ span f j (n - i)) (let q : 0 + i ≡ i = omega arith in q) in
+      ap (span f 0) (let q : n ≡ i + (n - i) = omega arith in q) ∙ span-append f 0 i (n - i) ∙ ap (λ (j : ℕ). span f 0 i ++ span f j (n - i)) (let q : 0 + i ≡ i = omega arith in q) in
       let l = look-append (span f 0 i) (span f i (n - i)) c (subst Rising s g) in
       let z : look (span f 0 i) c ≡ 0 = look-none c 0 i (λ j _ u q. let y = b j (omega arith) in omega arith) in
-      let v : look (span f i (n - i)) c ≡ suc (f i .clock) = ap (λ (t : List Row). look t c) (span-cons n i h) ∙ look-here (f i) _ c e in
+      let v : look (span f i (n - i)) c ≡ suc (f i .clock) = ap (λ (t : List Row). look t c) (span-next n i h) ∙ look-here (f i) _ c e in
       ap (λ (t : List Row). look t c) s ∙ l ∙ omega arith
 
   -- ## A row in its place
@@ -78,16 +60,6 @@ module _ (f : ℕ → Row) where
       ∙ put-behind r (f a) (span f (suc a) (d + m)) (h a (omega arith) (omega arith))
       ∙ ap (λ (l : List Row). f a ∷ l) (put-skip r (suc a) d m (λ j p q. h j (omega arith) (omega arith))
       ∙ ap (λ (j : ℕ). span f (suc a) d ++ put r (span f j m)) (let e : suc a + d ≡ a + suc d = omega arith in e))
-
-pub span-same : (f g : ℕ → Row) (i k : ℕ) → ((j : ℕ) → i ≤ j → j < i + k → f j ≡ g j) → span f i k ≡ span g i k
-unfolding span
-span-same f g i zero h = refl
-span-same f g i (suc k) h = ap₂ _∷_ (h i (omega arith) (omega arith)) (span-same f g (suc i) k (λ j p q. h j (omega arith) (omega arith)))
-
-span-moved : (f g : ℕ → Row) (i k : ℕ) → ((j : ℕ) → i ≤ j → j < i + k → f j ≡ g (suc j)) → span f i k ≡ span g (suc i) k
-unfolding span
-span-moved f g i zero h = refl
-span-moved f g i (suc k) h = ap₂ _∷_ (h i (omega arith) (omega arith)) (span-moved f g (suc i) k (λ j p q. h j (omega arith) (omega arith)))
 
 module _ (f g : ℕ → Row) (r : Row) (i n : ℕ) (below : (j : ℕ) → j < i → f j .client < r .client) (kept : (j : ℕ) → j < i → g j ≡ f j) (here : g i ≡ r) where
   front : (m : ℕ) → span f 0 i ++ (r ∷ span g (suc i) m) ≡ span g 0 (i + suc m)
@@ -114,7 +86,7 @@ module _ (f g : ℕ → Row) (r : Row) (i n : ℕ) (below : (j : ℕ) → j < i 
   put-new h e past =
       let q : n ≡ i + (n - i) = omega arith in
       ap (λ (m : ℕ). put r (span f 0 m)) q ∙ skipped (n - i)
-      ∙ ap (λ (l : List Row). span f 0 i ++ l) (first (n - i) (λ z. e (omega arith)) ∙ ap (λ (l : List Row). r ∷ l) (span-moved f g i (n - i) (λ j a b. sym (past j (omega arith) (omega arith)))))
+      ∙ ap (λ (l : List Row). span f 0 i ++ l) (first (n - i) (λ z. e (omega arith)) ∙ ap (λ (l : List Row). r ∷ l) (span-on f g i (n - i) (λ j a b. sym (past j (omega arith) (omega arith)))))
       ∙ front (n - i) ∙ ap (span g 0) (let u : i + suc (n - i) ≡ n + 1 = omega arith in u)
     where
       first : (m : ℕ) → (0 < m → r .client < f i .client) → put r (span f i m) ≡ r ∷ span f i m
@@ -128,17 +100,7 @@ unfolding span
 rows-span zero cs ks g h = refl
 rows-span (suc n) [] ks g h = absurd (not-suc-le-zero g)
 rows-span (suc n) (c ∷ cs) [] g h = absurd (not-suc-le-zero h)
-rows-span (suc n) (c ∷ cs) (k ∷ ks) g h = ap (λ (l : List Row). row c k ∷ l) (rows-span n cs ks (le-of-suc-le-suc g) (le-of-suc-le-suc h) ∙ span-moved (rowAt (two cs ks)) (rowAt (two (c ∷ cs) (k ∷ ks))) 0 n (λ j _ _. refl))
-
--- the columns of the rows
-pub columns : (n : ℕ) (cs ks : List ℕ) → n ≤ length cs → n ≤ length ks
-    → (map (λ (r : Row). r .client) (rowsOf n cs ks) ≡ take n cs) × (map (λ (r : Row). r .clock) (rowsOf n cs ks) ≡ take n ks)
-columns zero cs ks g h = (refl, refl)
-columns (suc n) [] ks g h = absurd (not-suc-le-zero g)
-columns (suc n) (c ∷ cs) [] g h = absurd (not-suc-le-zero h)
-columns (suc n) (c ∷ cs) (k ∷ ks) g h =
-    let i = columns n cs ks (le-of-suc-le-suc g) (le-of-suc-le-suc h) in
-    (ap (λ (l : List ℕ). c ∷ l) (i .0), ap (λ (l : List ℕ). k ∷ l) (i .1))
+rows-span (suc n) (c ∷ cs) (k ∷ ks) g h = ap (λ (l : List Row). row c k ∷ l) (rows-span n cs ks (le-of-suc-le-suc g) (le-of-suc-le-suc h) ∙ span-on (rowAt (two cs ks)) (rowAt (two (c ∷ cs) (k ∷ ks))) 0 n (λ j _ _. refl))
 
 -- ## A table by its indices
 

@@ -11,9 +11,11 @@ use lib.ListN.{length, getD, set}
 use lib.Seq.{set-getD}
 use Rattle.state_vector.specs.Rows.{Row, row, at, First, Rising, Below}
 use Rattle.state_vector.specs.Vectors.{Slices, held, rowsOf, room, Table}
-use Rattle.state_vector.specs.Inner.{rowAt, span, Holds, Firsts, element, Stores, Passes, Rests, Fronts, Unites, Nulls, anyLess, Unders, judged, Judges}
+use Rattle.tables.specs.Inner.Rows.{span}
+use Rattle.state_vector.specs.Inner.{rowAt, Holds, Firsts, element, Stores, Passes, Rests, Fronts, Unites, Nulls, anyLess, Unders, judged, Judges}
 use Rattle.state_vector.proofs.Looking.{look, look-here, look-past, same-or-not, at-look, first-same, over, look-append, between, merge-right}
-use Rattle.state_vector.proofs.Spanning.{span-cons, span-none, table-span, table-rising}
+use Rattle.tables.proofs.Spanning.{span-none}
+use Rattle.state_vector.proofs.Spanning.{span-next, table-span, table-rising}
 use Rattle.state_vector.proofs.Storing.{two-of, holds-none, holds-store}
 
 -- client x, with its clock and one more, or 0 where it is absent, is taken off the front of rising rows
@@ -29,7 +31,7 @@ pub record Off (x w : ℕ) (xs xs′ : List Row) : Type 0 where
 module _ (f : ℕ → Row) (n i x : ℕ) (h : i < n) (least : x ≤ f i .client) (g : Rising (span f i (n - i))) where
   taken-off : x ≡ f i .client → Off x (suc (f i .clock)) (f i ∷ span f (i + 1) (n - (i + 1))) (span f (i + 1) (n - (i + 1)))
   taken-off e =
-      let r : Rising (f i ∷ span f (i + 1) (n - (i + 1))) = subst Rising (span-cons f n i h) g in
+      let r : Rising (f i ∷ span f (i + 1) (n - (i + 1))) = subst Rising (span-next f n i h) g in
       record {
         here = look-here (f i) _ x e;
         gone = over (f i) _ x (omega arith) (r .0) (r .1);
@@ -41,13 +43,13 @@ module _ (f : ℕ → Row) (n i x : ℕ) (h : i < n) (least : x ≤ f i .client)
 
   left-on : (x ≡ f i .client → ⊥) → Off x 0 (f i ∷ span f (i + 1) (n - (i + 1))) (f i ∷ span f (i + 1) (n - (i + 1)))
   left-on e =
-      let r : Rising (f i ∷ span f (i + 1) (n - (i + 1))) = subst Rising (span-cons f n i h) g in
+      let r : Rising (f i ∷ span f (i + 1) (n - (i + 1))) = subst Rising (span-next f n i h) g in
       let z : look (f i ∷ span f (i + 1) (n - (i + 1))) x ≡ 0 = look-past (f i) _ x e ∙ over (f i) _ x least (r .0) (r .1) in
       record { here = z; gone = z; other = λ c q. refl; first = λ k. omega arith; rising = r; head = λ l. absurd (let y : ⊥ = omega arith in y) }
 
   off : (t : Bool) → eqb (f i .client) x ≡ t → Off x (cond t (suc (f i .clock)) 0) (span f i (n - i)) (span f (cond t (i + 1) i) (n - cond t (i + 1) i))
-  off true e = subst (λ (l : List Row). Off x (suc (f i .clock)) l (span f (i + 1) (n - (i + 1)))) (sym (span-cons f n i h)) (taken-off (sym (eqb-true _ _ e)))
-  off false e = subst (λ (l : List Row). Off x 0 l l) (sym (span-cons f n i h)) (left-on (λ q. eqb-false _ _ e (sym q)))
+  off true e = subst (λ (l : List Row). Off x (suc (f i .clock)) l (span f (i + 1) (n - (i + 1)))) (sym (span-next f n i h)) (taken-off (sym (eqb-true _ _ e)))
+  off false e = subst (λ (l : List Row). Off x 0 l l) (sym (span-next f n i h)) (left-on (λ q. eqb-false _ _ e (sym q)))
 
 -- one step on one side: the code's numbers
 pub record Side (a : Slices) (i x y i′ : ℕ) : Type 0 where

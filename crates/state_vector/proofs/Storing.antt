@@ -12,8 +12,9 @@ use Rattle.varint.specs.declared.Refusal.the-variants.{Malformed}
 use Rattle.tables.specs.Answers.{saidMade}
 use Rattle.state_vector.specs.Rows.{Row, row}
 use Rattle.state_vector.specs.Vectors.{Slices, two, rowsOf, room, most, filled, Writes}
-use Rattle.state_vector.specs.Inner.{rowAt, span, Holds, Closes, fits, over, Stores, Rests}
-use Rattle.state_vector.proofs.Spanning.{span-snoc, span-append, span-none, span-same, rows-span, columns}
+use Rattle.tables.specs.Inner.Rows.{span}
+use Rattle.state_vector.specs.Inner.{rowAt, Holds, Closes, fits, over, Stores, Rests}
+use Rattle.tables.proofs.Spanning.{span-append, span-snoc, span-none, span-same, padded-column}
 
 pub row-of : {c d k l : ℕ} → c ≡ d → k ≡ l → row c k ≡ row d l
 row-of p q = λ i. record { client = p i; clock = q i }
@@ -36,7 +37,7 @@ holds-none most o = record { many = refl; stand = λ _. refl }
 pub holds-store : {most k : ℕ} {r : Row} {o out : Slices} {t : List Row} → most ≤ room o → Stores most k r o out → Holds most o k t → Holds most out (k + 1) (t ++ (r ∷ []))
 holds-store {most} {k} {r} {o} {out} {t} fit s h = record {
   many = length-append t (r ∷ []) ∙ omega (arith, h .many);
-  stand = λ l. ap (λ (x : Slices). span (rowAt x) 0 (k + 1)) (s .there (omega arith)) ∙ span-snoc (rowAt o′) k
+  stand = λ l. ap (λ (x : Slices). span (rowAt x) 0 (k + 1)) (s .there (omega arith)) ∙ (span-snoc (rowAt o′) 0 k ∙ ap (λ (j : ℕ). span (rowAt o′) 0 k ++ (rowAt o′ j ∷ [])) (let e : 0 + k ≡ k = omega arith in e))
       ∙ ap₂ (λ (l : List Row) (q : Row). l ++ (q ∷ [])) (span-same (rowAt o′) (rowAt o) 0 k (λ j _ b. row-of (getD-set-other (o .clients) k j (r .client) 0 (λ e. omega arith)) (getD-set-other (o .clocks) k j (r .clock) 0 (λ e. omega arith))) ∙ h .stand (omega arith))
       (row-of (getD-set-same (o .clients) k (r .client) 0 (omega arith)) (getD-set-same (o .clocks) k (r .clock) 0 (omega arith)));
 }
@@ -96,12 +97,9 @@ cleared cs ks xs ys p q = two-of (p ∙ all cs) (q ∙ all ks)
 
 pub closed : (cs ks : List ℕ) (k : ℕ) (xs ys : List ℕ) → k ≤ room (two cs ks) → xs ≡ take k cs ++ replicate (length cs - k) 0 → ys ≡ take k ks ++ replicate (length ks - k) 0
     → two xs ys ≡ filled (span (rowAt (two cs ks)) 0 k) (two cs ks)
-closed cs ks k xs ys h p q = two-of (p ∙ pad cs (λ (r : Row). r .client) (columns k cs ks (omega arith) (omega arith) .0) (omega arith)) (q ∙ pad ks (λ (r : Row). r .clock) (columns k cs ks (omega arith) (omega arith) .1) (omega arith))
-  where
-    pad : (l : List ℕ) (f : Row → ℕ) → map f (rowsOf k cs ks) ≡ take k l → k ≤ length l → take k l ++ replicate (length l - k) 0 ≡ padded (length l) (map f (span (rowAt (two cs ks)) 0 k))
-    pad l f e b =
-        ap (λ (n : ℕ). take k l ++ replicate (length l - n) 0) (sym (length-take-le k l b))
-        ∙ ap (padded (length l)) (sym e ∙ ap (map f) (rows-span k cs ks (omega arith) (omega arith)))
+closed cs ks k xs ys h p q =
+    two-of (p ∙ padded-column (rowAt (two cs ks)) (λ (r : Row). r .client) cs k (length cs) (λ j. refl) (omega arith))
+    (q ∙ padded-column (rowAt (two cs ks)) (λ (r : Row). r .clock) ks k (length ks) (λ j. refl) (omega arith))
 
 pub filled-same : (t : List Row) (o o₀ : Slices) → length (o .clients) ≡ length (o₀ .clients) → length (o .clocks) ≡ length (o₀ .clocks) → filled t o ≡ filled t o₀
 filled-same t o o₀ p q = two-of (ap (λ (n : ℕ). padded n (map (λ (r : Row). r .client) t)) p) (ap (λ (n : ℕ). padded n (map (λ (r : Row). r .clock) t)) q)

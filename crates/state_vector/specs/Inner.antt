@@ -6,6 +6,7 @@ use Prim.Native.Nat.{ℕ, zero, suc, _+_, _-_, _≤_, _<_, min, max}
 use lib.Dec.{eqb, ltb}
 use lib.ListN.{length, getD, set}
 use Rattle.varint.specs.declared.Refusal.the-variants.{Full}
+use Rattle.tables.specs.Inner.Rows.{span}
 use Rattle.tables.specs.declared.Made.{Made}
 use Rattle.tables.specs.declared.Made.the-variants as made
 use Rattle.state_vector.specs.Rows.{Row, row, In, at, VectorOf, Merge, Compare}
@@ -19,10 +20,6 @@ use Rattle.state_vector.specs.declared.Decoded.the-variants as decoded
 use Rattle.state_vector.specs.declared.Order.{Order}
 use Rattle.state_vector.specs.declared.Order.the-variants as order
 
--- clients strictly rise, by their indices
-pub record Climbs (cs : List ℕ) (n : ℕ) : Type 0 where
-  pub up : (j : ℕ) → suc j < n → getD cs j 0 < getD cs (suc j) 0
-
 -- where client c has its row, or would have it: rows before are of smaller clients, and no row from there on is
 pub record Finds (cs : List ℕ) (n c i : ℕ) : Type 0 where
   pub within : i ≤ n
@@ -34,13 +31,9 @@ pub record Stands (cs : List ℕ) (n i c : ℕ) : Type 0 where
   pub within : i < n
   pub own : getD cs i 0 ≡ c
 
--- a row by its index, and k rows from i on
+-- a row by its index
 abbrev pub rowAt : Slices → ℕ → Row
 rowAt o i = row (getD (o .clients) i 0) (getD (o .clocks) i 0)
-
-unfoldable pub span : (ℕ → Row) → ℕ → ℕ → List Row
-span f i zero = []
-span f i (suc k) = f i ∷ span f (suc i) k
 
 -- row r in its place among rising rows: a row of its client is replaced
 unfoldable pub put : Row → List Row → List Row

@@ -14,10 +14,12 @@ ghost use lib.Dec.{eqb};
 ghost use lib.ListN.{length, take};
 ghost use Rattle.tables.specs.Answers.{Says};
 ghost use Rattle.tables.specs.Limits.{vectorLimit};
+ghost use Rattle.tables.specs.Inner.Climb.{Climbs};
+ghost use Rattle.tables.specs.Inner.Rows.{span};
 ghost use Rattle.state_vector.specs.Rows.{row, at, smaller, Set};
 ghost use Rattle.state_vector.specs.Vectors.{two, held, rows, rowsOf, room, Table, filled, Writes, Gets, MinSet, MaxSet, Merged, Compared};
-ghost use Rattle.state_vector.specs.Inner.{Climbs, Finds, Stands, put, Holds, Opens, Closes, Firsts, element, Stores, Passes, Rests, Fronts, Unites, Nulls, anyLess, Unders, judged, Judges, rowAt, span, Puts, Reads};
-ghost use Rattle.state_vector.specs.Bytes.{rowBytes, encoded, Encoded, pairsAt, saidDecoded, Decodes, ComesBack};
+ghost use Rattle.state_vector.specs.Inner.{Finds, Stands, put, Holds, Opens, Closes, Firsts, element, Stores, Passes, Rests, Fronts, Unites, Nulls, anyLess, Unders, judged, Judges, rowAt, Puts, Reads};
+ghost use Rattle.state_vector.specs.Bytes.{rowBytes, encoded, Encoded, pairsAt, saidDecoded, Decodes};
 ghost use Rattle.varint.specs.Number.{bytesOf};
 
 // A client's clock, or why there is none.
@@ -809,22 +811,4 @@ fn write_pairs(clients: &[u64], clocks: &[u32], n: usize, buf: &mut [u8], at: us
         i += 1;
     }
     next
-}
-
-// The round trip as a program: whoever encodes a vector and decodes its bytes, with room for both, has the same rows again. Nothing calls it; what
-// it promises asks nothing of a caller.
-fn round_trip(
-    clients: &[u64],
-    clocks: &[u32],
-    count: usize,
-    buf: &mut [u8],
-    at: usize,
-    to_clients: &mut [u64],
-    to_clocks: &mut [u32],
-) -> Decoded
-    ensures { λ r. ⌜ ComesBack (held (now (clients .entry)) (now (clocks .entry)) count) (now (buf .entry)) at
-        (two (now («to_clients» .entry)) (now («to_clocks» .entry))) (two (now («to_clients» .exit)) (now («to_clocks» .exit))) r ⌝ }
-{
-    encode(clients, clocks, count, buf, at);
-    decode(buf, at, to_clients, to_clocks)
 }

@@ -11,8 +11,19 @@ pub record Alike {A : Type 0} (ok ok′ : Type 0) (x x′ : A) : Type 0 where
   pub rules : ok ↔ ok′
   pub same : x ≡ x′
 
-alike-back : {A : Type 0} {ok ok′ : Type 0} {x x′ : A} → Alike ok ok′ x x′ → Alike ok′ ok x′ x
+pub alike-back : {A : Type 0} {ok ok′ : Type 0} {x x′ : A} → Alike ok ok′ x x′ → Alike ok′ ok x′ x
 alike-back a = record { rules = (a .rules .1, a .rules .0); same = sym (a .same) }
+
+-- with a rule of the rows beside
+pub alike-rule : {A : Type 0} {ok ok′ : Type 0} {x x′ : A} (rule : A → Type 0) → Alike ok ok′ x x′ → Alike (ok × rule x) (ok′ × rule x′) x x′
+alike-rule rule a =
+    record { rules = (λ t. (a .rules .0 (t .0), subst rule (a .same) (t .1)), λ t. (a .rules .1 (t .0), subst rule (sym (a .same)) (t .1))); same = a .same }
+
+-- of two tables
+pub alike-both : {A B : Type 0} {ok ok′ also also′ : Type 0} {x x′ : A} {y y′ : B} → Alike ok ok′ x x′ → Alike also also′ y y′
+    → Alike {A = A × B} (ok × also) (ok′ × also′) (x, y) (x′, y′)
+alike-both a b =
+    record { rules = (λ t. (a .rules .0 (t .0), b .rules .0 (t .1)), λ t. (a .rules .1 (t .0), b .rules .1 (t .1))); same = λ i. (a .same i, b .same i) }
 
 gives-alike : {A T O : Type 0} {ok ok′ : Type 0} {x x′ : A} (right : A → List T → Type 0) {most : ℕ} {fill : List T → O} {out : O} {a : Answer ℕ}
     → Alike ok ok′ x x′ → Gives ok (right x) most fill out a → Gives ok′ (right x′) most fill out a

@@ -6,7 +6,6 @@ use mathlib.Core.List.{[], _∷_, _++_, append-nil, append-assoc}
 use mathlib.Core.Bool.{cond, _&&_}
 use Prim.Native.Nat.{ℕ, zero, suc, _+_, _-_, _*_, _/_, _≤_, _<_, min, max}
 use native.Mathlib.Omega.{arith}
-use native.Mathlib.Nat.{add-zero}
 use lib.Dec.{leb, ltb}
 use borrow.Author.Tests.{lt-ltb, le-ltb}
 use Rattle.tables.specs.Inner.Rows.{Row, Rows, at, JoinedFrom, Joined, combined, union, difference, span}
@@ -14,7 +13,7 @@ use Rattle.tables.specs.Inner.Edit.{Plain, range, Advanced, Parted, star
 use Rattle.tables.proofs.Joining.{split, at-here, at-past, at-before}
 use Rattle.tables.proofs.Meaning.{combined-joined, combined-at, combined-only}
 use Rattle.tables.proofs.Pushing.{piece}
-use Rattle.tables.proofs.Spanning.{Links, unit-links, spanned}
+use Rattle.tables.proofs.Spanning.{Links, unit-links, spanned, span-append}
 use Rattle.tables.proofs.Closing.{span-unit}
 use Rattle.tables.proofs.Finding.{found}
 
@@ -145,15 +144,10 @@ module _ (row : ℕ → Row) where
   unfolding at
   span-holds-none a k x f = ap (λ (l : Rows). at l x) (sym (append-nil (span row a k))) ∙ span-out a k [] x f
 
-  pub span-append : (a k m : ℕ) → span row a (k + m) ≡ span row a k ++ span row (a + k) m
-  unfolding span
-  span-append a zero m = ap (span row a) (let z : 0 + m ≡ m = omega arith in z) ∙ ap (λ (j : ℕ). span row j m) (sym (add-zero a))
-  span-append a (suc k) m = ap (span row a) (let z : suc k + m ≡ suc (k + m) = omega arith in z) ∙ ap (λ (l : Rows). row a ∷ l) (span-append (suc a) k m ∙ ap (λ (j : ℕ). span row (suc a) k ++ span row j m) (let z : suc a + k ≡ a + suc k = omega arith in z))
-
   -- the rows from a to c, cut at b
   pub span-cut : (a b c : ℕ) → a ≤ b → b ≤ c → span row a (c - a) ≡ span row a (b - a) ++ span row b (c - b)
   span-cut a b c h k =
-      ap (span row a) (let z : c - a ≡ (b - a) + (c - b) = omega arith in z) ∙ (span-append a (b - a) (c - b)
+      ap (span row a) (let z : c - a ≡ (b - a) + (c - b) = omega arith in z) ∙ (span-append row a (b - a) (c - b)
       ∙ ap (λ (m : ℕ). span row a (b - a) ++ span row m (c - b)) (let z : a + (b - a) ≡ b = omega arith in z))
 
   -- the rows before i, from i to j, and from j on

@@ -9,6 +9,7 @@ use native.Mathlib.Decide.{decLt, ℕ-discrete}
 use lib.Dec.{leb, ltb}
 use borrow.Author.Tests.{lt-ltb, le-ltb, le-leb, lt-leb, eq-eqb, ne-eqb}
 use Rattle.tables.specs.Inner.Rows.{Row, Rows, at, JoinedFrom, Joined, push, put, tabulate, top, combined}
+use Rattle.tables.proofs.Unique.{Kind, rows-one}
 
 -- which of two numbers is less
 pub split : (a b : ℕ) → (a < b) ⊎ (b ≤ a)
@@ -41,58 +42,65 @@ unfolding at JoinedFrom
 at-below lo w [] j h = refl
 at-below lo w (r ∷ rs) j h = at-before r rs (omega arith) ∙ at-below (r .end) (r .weight) rs (j .4) (omega arith)
 
--- the rows behind a row do not go on with it
-pub at-seam : (lo w : ℕ) (rs : Rows) → JoinedFrom lo w rs → 1 ≤ w → at rs lo ≡ w → ⊥
+-- ## There is one table
+
+row-path : {r q : Row} → r .start ≡ q .start → r .end ≡ q .end → r .weight ≡ q .weight → r ≡ q
+row-path a b c = λ i. record { start = a i; end = b i; weight = c i }
+
+-- a number and its weight, in a row and past it
+abbrev In : Row → ℕ × ℕ → Type 0
+In r p = (r .start ≤ p .0) × (p .0 < r .end) × (p .1 ≡ r .weight)
+
+abbrev Past : Row → ℕ × ℕ → Type 0
+Past r p = (r .end ≤ p .0) × (r .end ≡ p .0 → r .weight ≡ p .1 → ⊥)
+
+abbrev Inside : Row → Row → Type 0
+Inside r q = (p : ℕ × ℕ) → In r p → In q p ⊎ Past q p
+
+starts : (r q : Row) → r .start < r .end → q .start < q .end → Inside r q → q .start ≤ r .start
+starts r q h k f = ⊎-elim (λ i. i .0) (λ o. omega (arith, o .0)) (f (r .start, r .weight) (omega arith, h, refl))
+
+weights : (r q : Row) → r .start < r .end → q .start < q .end → r .start ≡ q .start → Inside r q → r .weight ≡ q .weight
+weights r q h k e f = ⊎-elim (λ i. i .2) (λ o. omega (arith, o .0)) (f (r .start, r .weight) (omega arith, h, refl))
+
+ends : (r q : Row) → q .start < q .end → r .start ≡ q .start → r .weight ≡ q .weight → Inside r q → r .end ≤ q .end
+ends r q k e v f = ⊎-elim
+    (λ l. ⊎-elim (λ i. absurd (omega (arith, i .1))) (λ o. absurd (o .1 refl (sym v))) (f (q .end, r .weight) (omega arith, l, refl)))
+    (λ l. l) (split (q .end) (r .end))
+
+kind : Kind Row (ℕ × ℕ)
 unfolding at JoinedFrom
-at-seam lo w [] j h e = omega arith
-at-seam lo w (r ∷ rs) j h e = ⊎-elim before touch (split lo (r .start))
-  where
-    before : lo < r .start → ⊥
-    before l = let z : at (r ∷ rs) lo ≡ 0 = at-before r rs l ∙ at-below (r .end) (r .weight) rs (j .4) (omega arith) in omega arith
+kind =
+    record {
+      Joined = λ rs. (lo : ℕ) × (w : ℕ) × JoinedFrom lo w rs;
+      Holds = λ rs p. (1 ≤ p .1) × (at rs (p .0) ≡ p .1);
+      In = In;
+      Past = Past;
+      none = λ p h. omega (arith, h .0, h .1);
+      cons = λ r rs j p. (
+        λ h. ⊎-elim (λ l. inr (h .0, sym (at-before r rs l) ∙ h .1))
+            (λ l. ⊎-elim (λ m. inl (l, m, sym (h .1) ∙ at-here r rs l m)) (λ m. inr (h .0, sym (at-past r rs m) ∙ h .1)) (split (p .0) (r .end)))
+            (split (p .0) (r .start)),
+        ⊎-elim (λ i. (omega (arith, i .2, j .2 .3), at-here r rs (i .0) (i .1) ∙ sym (i .2)))
+            (λ h. ⊎-elim (λ l. absurd (omega (arith, h .0, h .1, at-below (r .end) (r .weight) rs {x = p .0} (j .2 .4) l))) (λ l. (h .0, at-past r rs l ∙ h .1)) (split (p .0) (r .end))),
+      );
+      some = λ r rs j. ((r .start, r .weight), (omega arith, j .2 .2, refl));
+      tail = λ r rs j. (r .end, r .weight, j .2 .4);
+      next = λ r s rs j p. ⊎-elim
+          (λ i. (omega (arith, i .0, j .2 .4 .0), λ e v. j .2 .4 .1 (omega (arith, i .0, j .2 .4 .0)) (v ∙ i .2)))
+          (λ o. (omega (arith, o .0, j .2 .4 .0, j .2 .4 .2), λ e _. omega (arith, o .0, j .2 .4 .0, j .2 .4 .2)));
+      apart = λ r p i o. omega (arith, i .1, o .0);
+      same = λ r q x y f g.
+          let h : r .start < r .end = omega (arith, x .1 .0, x .1 .1) in
+          let k : q .start < q .end = omega (arith, y .1 .0, y .1 .1) in
+          let s : r .start ≡ q .start = omega (arith, starts r q h k f, starts q r k h g) in
+          let v = weights r q h k s f in
+          row-path s (omega (arith, ends r q k s v f, ends q r h (sym s) (sym v) g)) v;
+    }
 
-    touch : r .start ≤ lo → ⊥
-    touch l = j .1 (omega arith) (sym e ∙ at-here r rs l (omega arith))
-
-row-path : (r q : Row) → r .start ≡ q .start → r .end ≡ q .end → r .weight ≡ q .weight → r ≡ q
-row-path r q a b c = λ i. record { start = a i; end = b i; weight = c i }
-
--- the first row starts where the weights do
-starts : (lo w lo′ w′ : ℕ) (r q : Row) (a b : Rows) → JoinedFrom lo w (r ∷ a) → JoinedFrom lo′ w′ (q ∷ b)
-    → ((x : ℕ) → at (r ∷ a) x ≡ at (q ∷ b) x) → r .start < q .start → ⊥
-unfolding JoinedFrom
-starts lo w lo′ w′ r q a b j k h l =
-    let e : at (q ∷ b) (r .start) ≡ 0 = at-before q b l ∙ at-below (q .end) (q .weight) b (k .4) (omega arith) in
-    let f : at (r ∷ a) (r .start) ≡ r .weight = at-here r a (omega arith) (j .2) in
-    let g = h (r .start) in
-    omega arith
-
--- the first row ends where its weight does
-ends : (lo w lo′ w′ : ℕ) (r q : Row) (a b : Rows) → JoinedFrom lo w (r ∷ a) → JoinedFrom lo′ w′ (q ∷ b)
-    → ((x : ℕ) → at (r ∷ a) x ≡ at (q ∷ b) x) → r .start ≡ q .start → r .weight ≡ q .weight → r .end < q .end → ⊥
-unfolding JoinedFrom
-ends lo w lo′ w′ r q a b j k h s v l =
-    at-seam (r .end) (r .weight) a (j .4) (j .3)
-    (sym (at-past r a (omega arith)) ∙ (h (r .end) ∙ (at-here q b (omega arith) l ∙ sym v)))
-
-pub meet : (a b : ℕ) → (a < b → ⊥) → (b < a → ⊥) → a ≡ b
-meet a b f g = ⊎-elim (λ l. absurd (f l)) (λ l. ⊎-elim (λ m. absurd (g m)) (λ m. omega arith) (split b a)) (split a b)
-
--- THE UNIQUENESS THEOREM
-pub unique : (lo w : ℕ) (a b : Rows) → JoinedFrom lo w a → JoinedFrom lo w b → ((x : ℕ) → at a x ≡ at b x) → a ≡ b
-unfolding at JoinedFrom
-unique lo w [] [] j k h = refl
-unique lo w [] (q ∷ b) j k h = absurd (let e : 0 ≡ q .weight = h (q .start) ∙ at-here q b (omega arith) (k .2) in omega arith)
-unique lo w (r ∷ a) [] j k h = absurd (let e : 0 ≡ r .weight = sym (h (r .start)) ∙ at-here r a (omega arith) (j .2) in omega arith)
-unique lo w (r ∷ a) (q ∷ b) j k h =
-    let s : r .start ≡ q .start = meet _ _ (starts lo w lo w r q a b j k h) (starts lo w lo w q r b a k j (λ x. sym (h x))) in
-    let v : r .weight ≡ q .weight = sym (at-here r a (omega arith) (j .2)) ∙ (h (r .start) ∙ at-here q b (omega arith) (omega arith)) in
-    let e : r .end ≡ q .end = meet _ _ (ends lo w lo w r q a b j k h s v) (ends lo w lo w q r b a k j (λ x. sym (h x)) (sym s) (sym v)) in
-    let k′ : JoinedFrom (r .end) (r .weight) b = subst₂ (λ (n v : ℕ). JoinedFrom n v b) (sym e) (sym v) (k .4) in
-    ap₂ _∷_ (row-path r q s e v) (unique (r .end) (r .weight) a b (j .4) k′ (λ x. tails k′ e x (split x (r .end))))
-  where
-    tails : JoinedFrom (r .end) (r .weight) b → r .end ≡ q .end → (x : ℕ) → (x < r .end) ⊎ (r .end ≤ x) → at a x ≡ at b x
-    tails k′ e x (inl l) = at-below (r .end) (r .weight) a (j .4) l ∙ sym (at-below (r .end) (r .weight) b k′ l)
-    tails k′ e x (inr l) = sym (at-past r a l) ∙ (h x ∙ at-past q b (omega arith))
+pub unique : (a b : Rows) → Joined a → Joined b → ((x : ℕ) → at a x ≡ at b x) → a ≡ b
+unfolding kind
+unique a b j k h = rows-one kind a b (0, 0, j) (0, 0, k) (λ p. (λ e. (e .0, sym (h (p .0)) ∙ e .1), λ e. (e .0, h (p .0) ∙ e .1)))
 
 -- ## A piece put behind a table
 
@@ -207,7 +215,7 @@ built m (suc n) = built-put m n (suc n) (m n) (tabulate m n) (built m n) (omega 
 -- AND UNIQUENESS: whatever is built of the same weights is that table
 pub built-unique : (m : ℕ → ℕ) (c d : ℕ) (a b : Rows) → Built m c a → Built m d b
     → ((x : ℕ) → c ≤ x → m x ≡ 0) → ((x : ℕ) → d ≤ x → m x ≡ 0) → a ≡ b
-built-unique m c d a b p q f g = unique 0 0 a b (p .joined) (q .joined) (λ x. all c a p f x (split x c) ∙ sym (all d b q g x (split x d)))
+built-unique m c d a b p q f g = unique a b (p .joined) (q .joined) (λ x. all c a p f x (split x c) ∙ sym (all d b q g x (split x d)))
   where
     all : (k : ℕ) (rs : Rows) → Built m k rs → ((x : ℕ) → k ≤ x → m x ≡ 0) → (x : ℕ) → (x < k) ⊎ (k ≤ x) → at rs x ≡ m x
     all k rs b f x (inl d) = b .below x d

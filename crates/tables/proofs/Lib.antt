@@ -2,9 +2,10 @@
 pub mod Giving
 pub mod Below
 pub mod Saying
+pub mod Unique
 pub mod Joining
 pub mod Meaning
-pub mod Merging
+pub mod Climbing
 pub mod Counting
 pub mod Spanning
 pub mod Closing

@@ -1,9 +1,9 @@
 -- The combination of two tables is the one joined table with the combined weights. Assumes nothing.
 use mathlib.Core.Logic.{_⊎_, inl, inr}
-use mathlib.Core.Path.{_≡_, ap₂, sym, _∙_}
+use mathlib.Core.Path.{_≡_, refl, ap₂, sym, _∙_}
 use Prim.Native.Nat.{ℕ, _≤_, _<_, max}
 use native.Mathlib.Omega.{arith}
-use Rattle.tables.specs.Inner.Rows.{Rows, at, Joined, top, combined}
+use Rattle.tables.specs.Inner.Rows.{Rows, at, Joined, top, combined, union}
 use Rattle.tables.proofs.Joining.{split, at-top, unique, Built, built}
 
 -- EXISTENCE AND UNIQUENESS: of the joined tables, combined f a b is the one that holds x with weight f (weight in a) (weight in b)
@@ -23,4 +23,8 @@ combined-at f z a b x = go (split x (max (top a) (top b)))
     go (inr h) = at-top _ {x = x} (omega (arith, b₀ .tops)) ∙ sym (ap₂ f (at-top a {x = x} (omega arith)) (at-top b {x = x} (omega arith)) ∙ z)
 
 pub combined-only : (f : ℕ → ℕ → ℕ) → f 0 0 ≡ 0 → (a b rs : Rows) → Joined rs → ((x : ℕ) → at rs x ≡ f (at a x) (at b x)) → rs ≡ combined f a b
-combined-only f z a b rs j h = unique 0 0 rs (combined f a b) j (combined-joined f a b) (λ x. h x ∙ sym (combined-at f z a b x))
+combined-only f z a b rs j h = unique rs (combined f a b) j (combined-joined f a b) (λ x. h x ∙ sym (combined-at f z a b x))
+
+pub union-comm : (a b : Rows) → combined union a b ≡ combined union b a
+unfolding union
+union-comm a b = combined-only union refl b a (combined union a b) (combined-joined union a b) (λ x. omega (arith, combined-at union refl a b x))

@@ -7,8 +7,7 @@ use lib.ListN.{length, length-append}
 use Rattle.tables.specs.Inner.Rows.{Row, Rows, span}
 use Rattle.tables.specs.Inner.Sweep.{Holds}
 use Rattle.tables.specs.Inner.Edit.{Moved, Stands}
-use Rattle.tables.proofs.Spanning.{span-same, length-span}
-use Rattle.tables.proofs.Inserting.{span-append}
+use Rattle.tables.proofs.Spanning.{span-same, length-span, span-append}
 
 -- rows that stand elsewhere
 span-moved : (row src : ℕ → Row) (c a k : ℕ) → ((x : ℕ) → x < k → row (c + x) ≡ src (a + x)) → span row c k ≡ span src a k

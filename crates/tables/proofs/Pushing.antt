@@ -20,10 +20,11 @@ row-is a b c = λ i. record { start = a i; end = b i; weight = c i }
 -- rows that agree with the old ones below k, and then a row r
 snoc : (row row′ : ℕ → Row) (k : ℕ) (r : Row) → ((j : ℕ) → j < k → row j ≡ row′ j) → row′ k ≡ r → span row′ 0 (suc k) ≡ span row 0 k ++ (r ∷ [])
 snoc row row′ k r f e =
-    span-snoc row′ 0 k
+    ap (span row′ 0) (let z : suc k ≡ k + 1 = omega arith in z)
+    ∙ (span-snoc row′ 0 k
     ∙ ap₂ (λ (a : Rows) (b : Row). a ++ (b ∷ []))
     (sym (span-same row row′ 0 k (λ j _ m. f j (omega arith))))
-    (ap row′ (let z : 0 + k ≡ k = omega arith in z) ∙ e)
+    (ap row′ (let z : 0 + k ≡ k = omega arith in z) ∙ e))
 
 -- ## What push does to rows that are given by their index
 

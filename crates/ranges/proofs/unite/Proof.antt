@@ -6,7 +6,7 @@ use borrow.Author.Needs.{needs}
 use Rattle.tables.specs.Inner.Unite.{United}
 use Rattle.tables.specs.Inner.Edit.{Starting}
 use Rattle.tables.proofs.Uniting.{united-none, less-left, rest-left, rest-right, holds-other}
-use Rattle.tables.proofs.Merging.{union-comm}
+use Rattle.tables.proofs.Meaning.{union-comm}
 use Rattle.ranges.proofs.Uniting.{first-at, first-fills, first-moves, united-first}
 use Rattle.ranges.specs.Inner.{rowAt}
 use Rattle.ranges.proofs.Flat.{ruled-links}

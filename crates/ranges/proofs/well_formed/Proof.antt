@@ -1,14 +1,15 @@
-use Prim.Native.Nat.{_-_}
+use Prim.Native.Nat.{_-_, _*_}
 use Rattle.tables.proofs.Saying.{says-no}
 use native.Mathlib.Omega.{arith}
-use Rattle.ranges.proofs.Looking.{Looked, looked-none, looked-more, looked-all}
+use Rattle.tables.proofs.Climbing.{Rose, rose-none, rose-more, rose-all}
+use Rattle.ranges.proofs.Looking.{says-ruled}
 use Rattle.ranges.proofs.well_formed.Statement.{statement}
 use Rattle.ranges.proofs.well_formed.Tie as tie
 use Rattle.ranges.proofs.well_formed.Reads as reads
 use Rattle.ranges.proofs.well_formed.Lts as lts
 
 abbrev Inv-loop : tie.InvT-loop
-Inv-loop a n e ok₀ i₀ ok i = Looked a n i ok
+Inv-loop a n e ok₀ i₀ ok i = Rose a (2 * n) i ok
 
 abbrev μ-loop : tie.MeasureT-loop
 μ-loop a n e ok₀ i₀ ok i = e - i
@@ -23,7 +24,7 @@ mul-e : tie.Need-mul-e Inv-loop μ-loop
 mul-e c = omega arith
 
 loop-holds : tie.Need-loop-holds Inv-loop μ-loop
-loop-holds c = looked-none _ _
+loop-holds c = rose-none _ _
 
 sub-ok : tie.Need-sub-ok Inv-loop μ-loop
 sub-ok c = omega arith
@@ -47,10 +48,10 @@ loop-less : tie.Need-loop-less Inv-loop μ-loop
 loop-less c = omega arith
 
 loop-again : tie.Need-loop-again Inv-loop μ-loop
-loop-again c = looked-more _ (c .before .before .before .loop .inv) (omega arith)
+loop-again c = rose-more _ (c .before .before .before .loop .inv) (omega arith)
 
 returns-3 : tie.Need-returns-3 Inv-loop μ-loop
-returns-3 c = looked-all _ (c .before .loop .inv) (omega arith) (omega arith) (omega arith)
+returns-3 c = says-ruled (omega arith) (omega arith) (rose-all _ (c .before .loop .inv) (omega arith))
 
 pub well-formed-spec : {M : Type 1} → statement M
 well-formed-spec =

@@ -1,7 +1,7 @@
 -- `state_vector::rising` meets its contract: the loop goes by `Rose`. Assumes nothing.
 use native.Mathlib.Omega.{arith}
 use Prim.Native.Nat.{_-_}
-use Rattle.state_vector.proofs.Loops.{Rose, rose-none, rose-more, rose-all}
+use Rattle.tables.proofs.Climbing.{Rose, rose-none, rose-more, rose-all}
 use borrow.Author.Needs.{needs}
 use Rattle.state_vector.proofs.rising.Statement.{statement}
 use Rattle.state_vector.proofs.rising.Tie as tie

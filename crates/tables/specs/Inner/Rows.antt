@@ -43,8 +43,8 @@ unfoldable pub put : Rows → ℕ → ℕ → ℕ → Rows
 put rs s e zero = rs
 put rs s e (suc w) = push rs s e (suc w)
 
--- the rows i, .., i + k - 1 of rows that are given by their index
-unfoldable pub span : (ℕ → Row) → ℕ → ℕ → Rows
+-- the rows i, .., i + k - 1 of rows, of any kind, that are given by their index
+unfoldable pub span : {A : Type 0} → (ℕ → A) → ℕ → ℕ → List A
 span row i zero = []
 span row i (suc k) = row i ∷ span row (suc i) k
 
