@@ -6,8 +6,6 @@ use Rattle.ids.proofs.Checking.{Tested, tested-none, tested-more, teste
 use borrow.Author.Needs.{needs}
 use Rattle.ids.proofs.none_empty.Statement.{statement}
 use Rattle.ids.proofs.none_empty.Tie as tie
-use Rattle.ids.proofs.none_empty.Reads as reads
-use Rattle.ids.proofs.none_empty.Lts as lts
 
 abbrev Inv-loop : tie.InvT-loop
 Inv-loop starts ends n ok₀ i₀ ok i = (i ≤ n) × Tested (NoneEmpty starts ends) i ok

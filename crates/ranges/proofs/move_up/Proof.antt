@@ -4,8 +4,6 @@ use native.Mathlib.Omega.{arith}
 use borrow.Author.Needs.{needs}
 use Rattle.ranges.proofs.move_up.Statement.{statement}
 use Rattle.ranges.proofs.move_up.Tie as tie
-use Rattle.ranges.proofs.move_up.Reads as reads
-use Rattle.ranges.proofs.move_up.Lts as lts
 
 abbrev Inv-loop : tie.InvT-loop
 Inv-loop part₀ k w₀ part w = Raised part₀ w (2 * k) part × (w ≤ 2 * k)
