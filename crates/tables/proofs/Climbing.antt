@@ -1,9 +1,9 @@
--- A pass over the first numbers of a slice says whether they rise. Assumes nothing.
+-- Numbers that rise: from one to the next, hence all of them; and a pass over a slice that says whether its numbers do. Assumes nothing.
 use mathlib.Core.Logic.{⊎-elim}
-use mathlib.Core.Path.{_≡_, refl, subst₂}
+use mathlib.Core.Path.{_≡_, refl, subst, subst₂}
 use mathlib.Core.Bool.{Bool, true, false, _&&_, true≢false, false≢true}
 use mathlib.Core.List.{List}
-use Prim.Native.Nat.{ℕ, suc, _+_, _-_, _≤_, _<_}
+use Prim.Native.Nat.{ℕ, zero, suc, _+_, _-_, _≤_, _<_}
 use native.Mathlib.Omega.{arith}
 use lib.Dec.{ltb}
 use lib.ListN.{getD}
@@ -11,6 +11,20 @@ use borrow.Author.Tests.{ltb-true, ltb-false}
 use Rattle.tables.specs.Answers.{Says}
 use Rattle.tables.specs.Inner.Climb.{Climbs}
 use Rattle.tables.proofs.Joining.{split}
+
+-- marks never fall
+abbrev pub Rising : (ℕ → ℕ) → ℕ → Type 0
+Rising mark n = (k j : ℕ) → k ≤ j → j < n → mark k ≤ mark j
+
+pub rising : (mark : ℕ → ℕ) (n : ℕ) → ((j : ℕ) → suc j < n → mark j ≤ mark (suc j)) → Rising mark n
+rising mark n up k j h l = subst (λ (m : ℕ). mark k ≤ mark m) (let z : k + (j - k) ≡ j = omega arith in z) (go (j - k) (omega arith))
+  where
+    go : (d : ℕ) → k + d < n → mark k ≤ mark (k + d)
+    go zero b = subst (λ (m : ℕ). mark k ≤ mark m) (let z : k ≡ k + 0 = omega arith in z) (omega arith)
+    go (suc d) b = subst (λ (m : ℕ). mark k ≤ mark m) (let z : suc (k + d) ≡ k + suc d = omega arith in z) (omega (arith, go d (omega arith), up (k + d) (omega arith)))
+
+pub climbs-at : {l : List ℕ} {n : ℕ} → Climbs l n → Rising (λ j. getD l j 0) n
+climbs-at {l} {n} c = rising (λ j. getD l j 0) n (λ j h. omega (arith, c .up j h))
 
 pub less-at : (l : List ℕ) {p q p′ q′ : ℕ} → p ≡ p′ → q ≡ q′ → getD l p 0 < getD l q 0 → getD l p′ 0 < getD l q′ 0
 less-at l a b h = subst₂ (λ (x y : ℕ). getD l x 0 < getD l y 0) a b h
