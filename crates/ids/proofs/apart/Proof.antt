@@ -2,7 +2,7 @@
 use native.Mathlib.Omega.{arith}
 use Prim.Native.Nat.{_+_, _≤_, _-_}
 use Rattle.ids.specs.Inner.{Apart}
-use Rattle.ids.proofs.Checking.{Tested, tested-none, tested-more, tested-pairs}
+use Rattle.tables.proofs.Testing.{Tested, tested-none, tested-more, tested-pairs}
 use borrow.Author.Needs.{needs}
 use Rattle.ids.proofs.apart.Statement.{statement}
 use Rattle.ids.proofs.apart.Tie as tie

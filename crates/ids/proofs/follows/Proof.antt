@@ -1,4 +1,5 @@
-use Rattle.ids.proofs.Checking.{less-says, same-says, other-says}
+use Rattle.tables.proofs.Testing.{less-says}
+use Rattle.ids.proofs.Checking.{same-says, other-says}
 use borrow.Author.Needs.{needs}
 use Rattle.ids.proofs.follows.Statement.{statement}
 use Rattle.ids.proofs.follows.Tie as tie

@@ -2,7 +2,7 @@
 use native.Mathlib.Omega.{arith}
 use Prim.Native.Nat.{_≤_, _-_}
 use Rattle.ids.specs.Inner.{NoneEmpty}
-use Rattle.ids.proofs.Checking.{Tested, tested-none, tested-more, tested-all, less-says}
+use Rattle.tables.proofs.Testing.{Tested, tested-none, tested-more, tested-all, less-says}
 use borrow.Author.Needs.{needs}
 use Rattle.ids.proofs.none_empty.Statement.{statement}
 use Rattle.ids.proofs.none_empty.Tie as tie

@@ -1,5 +1,6 @@
 use native.Mathlib.Omega.{arith}
-use Rattle.ids.proofs.Checking.{less-says, same-says, other-says}
+use Rattle.tables.proofs.Testing.{less-says}
+use Rattle.ids.proofs.Checking.{same-says, other-says}
 use Rattle.ids.proofs.precedes.Statement.{statement}
 use Rattle.ids.proofs.precedes.Tie as tie
 
