@@ -12,6 +12,7 @@ use borrow.Author.Tests.{ltb-true, ltb-false, le-ltb, eqb-true, eqb-false, eq-eq
 use Rattle.tables.specs.Inner.Climb.{Climbs}
 use Rattle.tables.specs.Inner.Edit.{Parted}
 use Rattle.tables.proofs.Climbing.{climbs-at}
+use Rattle.tables.proofs.Copying.{Raised, raised-none, raised-more}
 use Rattle.tables.proofs.Inserting.{parted-met}
 use Rattle.state_vector.specs.Inner.{Finds, Firsts, element, Opens, Nulls, anyLess, Unders}
 use Rattle.state_vector.proofs.Looking.{same-or-not}
@@ -53,28 +54,24 @@ firsts-all c h = record { are = λ j l. c .are j (omega arith) }
 pub record Opening (i n : ℕ) (s out : List ℕ) (j : ℕ) : Type 0 where
   pub low : i ≤ j
   pub high : j ≤ n
-  pub kept : (k : ℕ) → k < j → getD out k 0 ≡ getD s k 0
-  pub moved : (k : ℕ) → j ≤ k → k < n → getD out (suc k) 0 ≡ getD s k 0
+  pub raised : Raised 1 s j n out
 
 pub opening-none : (i n : ℕ) (s : List ℕ) → i ≤ n → Opening i n s s n
-opening-none i n s h = record { low = h; high = omega arith; kept = λ k _. refl; moved = λ k a b. absurd (let z : ⊥ = omega arith in z) }
+opening-none i n s h = record { low = h; high = omega arith; raised = raised-none s n }
 
 pub opening-more : {i n : ℕ} {s out : List ℕ} {j : ℕ} → Opening i n s out j → i < j → j < length out → Opening i n s (set out j (getD out (j - 1) 0)) (j - 1)
 opening-more {i} {n} {s} {out} {j} c h l = record {
   low = omega arith;
   high = omega (arith, c .high);
-  kept = λ k m. getD-set-other out j k v 0 (λ e. omega arith) ∙ c .kept k (omega arith);
-  moved = λ k a b. ⊎-elim
-      (λ (e : suc k ≡ j). subst (λ (x : ℕ). getD (set out j v) x 0 ≡ getD s k 0) (sym e) (getD-set-same out j v 0 l ∙ c .kept (j - 1) (omega arith)
-      ∙ ap (λ (x : ℕ). getD s x 0) (let z : j - 1 ≡ k = omega arith in z)))
-      (λ n. getD-set-other out j (suc k) v 0 n ∙ c .moved k (omega arith) b) (same-or-not (suc k) j);
+  raised = subst (λ (k : ℕ). Raised 1 s (j - 1) n (set out k (getD out (j - 1) 0))) (let z : j - 1 + 1 ≡ j = omega arith in z)
+      (raised-more (j - 1) (c .raised) (omega arith) (omega (arith, c .raised .same)));
 }
-  where
-    v : ℕ
-    v = getD out (j - 1) 0
 
 pub opening-all : {i n : ℕ} {s out : List ℕ} {j : ℕ} → Opening i n s out j → j ≤ i → Opens i n s out
-opening-all c h = record { kept = λ k l. c .kept k (omega (arith, c .low)); moved = λ k a b. c .moved k (omega arith) b }
+opening-all {s = s} {out = out} c h = record {
+  kept = λ k l. c .raised .before2 k (omega (arith, c .low));
+  moved = λ k a b. ap (λ (x : ℕ). getD out x 0) (let z : suc k ≡ k + 1 = omega arith in z) ∙ c .raised .there k (omega arith) b;
+}
 
 -- ## Clocks above 0
 
