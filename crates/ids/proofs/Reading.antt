@@ -14,6 +14,7 @@ use Rattle.tables.proofs.Sets.{Means, combined-units}
 use Rattle.ids.specs.Rows.{Row, row, Holds, Before, Joined, TableOf}
 use Rattle.ids.specs.Tables.{rowsOf}
 use Rattle.ids.specs.Inner.{numberOf, idRow, idRows, IdTable}
+use Rattle.ids.proofs.Unique.{row-path}
 use Rattle.ids.proofs.Numbering.{idAt, fit, Fit, rows-span, Narrow, joined}
 
 -- the row of a client that stands at these places
@@ -25,9 +26,6 @@ abbrev pub Kept : inner.Rows → Type 0
 Kept rs = (x : ℕ) → 0 < at rs x → x % 4294967296 + 1 < 4294967296
 
 -- ## The rows of an id table
-
-row-path : {r s : Row} → r .client ≡ s .client → r .start ≡ s .start → r .end ≡ s .end → r ≡ s
-row-path o p q = λ i. record { client = o i; start = p i; end = q i }
 
 module _ (cs ss es : List ℕ) (f : Narrow ss) (g : Narrow es) where
   gathered : (i k : ℕ) → map gather (span (idRow cs ss es) i k) ≡ span (idAt cs ss es) i k

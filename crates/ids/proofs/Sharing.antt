@@ -10,8 +10,7 @@ use Rattle.tables.specs.Answers.{Says}
 use Rattle.tables.specs.Inner.Rows as inner
 use Rattle.tables.specs.Inner.Unite.{Passed}
 use Rattle.tables.specs.Inner.Differ.{GapStart, GapEnd}
-use Rattle.tables.proofs.Joining.{split}
-use Rattle.tables.proofs.Pushing.{row-is}
+use Rattle.tables.proofs.Joining.{split, row-is}
 use Rattle.tables.proofs.Saying.{says-both}
 use Rattle.tables.proofs.Crossing.{Crossing}
 use Rattle.tables.proofs.Differing.{Differing, gap-left}
@@ -20,7 +19,8 @@ use Rattle.ids.specs.declared.Entry.{Entry}
 use Rattle.ids.specs.declared.Shared.{Shared}
 use Rattle.ids.specs.declared.Spot.{Spot}
 use Rattle.ids.specs.Inner.{numberOf, idRow, IdTable, Picked, entryAt, startOf, endOf, final, Shares, Puts}
-use Rattle.ids.proofs.Checking.{less-says, same-says}
+use Rattle.tables.proofs.Testing.{less-says}
+use Rattle.ids.proofs.Checking.{same-says}
 use Rattle.ids.proofs.Numbering.{Narrow, Wide, links}
 
 -- ## What a row shares

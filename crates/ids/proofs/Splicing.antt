@@ -12,10 +12,9 @@ use Rattle.tables.specs.Inner.Rows as inner
 use Rattle.tables.specs.Inner.Rows.{span, combined}
 use Rattle.tables.specs.Inner.Sweep.{Holds}
 use Rattle.tables.specs.Inner.Edit.{Plain, Parted, starts, ends, Starting, Ending}
-use Rattle.tables.proofs.Joining.{split}
+use Rattle.tables.proofs.Joining.{split, piece, row-is}
 use Rattle.tables.proofs.Copying.{Copied}
 use Rattle.tables.proofs.Spanning.{length-span, span-same}
-use Rattle.tables.proofs.Pushing.{piece, row-is}
 use Rattle.tables.proofs.Inserting.{inserted, range-one}
 use Rattle.tables.proofs.Placing.{laid-holds, laid-over}
 use Rattle.ids.specs.Inner.{numberOf, idRow, idRows, IdTable, Checked, Both, Leads, Trails, Shifted, Spliced}

@@ -41,7 +41,7 @@ module _ (r s : Row) (e : r .client ≡ s .client) (h : r .start < r .end) (l : 
       (λ m. absurd (⊎-elim (λ i. omega (arith, i .2)) (⊎-elim (λ o. omega arith) (λ o. omega (arith, o .1))) (f (r .client, s .end) (refl, omega arith, m))))
       (λ m. m) (split (s .end) (r .end))
 
-row-path : {r s : Row} → r .client ≡ s .client → r .start ≡ s .start → r .end ≡ s .end → r ≡ s
+pub row-path : {r s : Row} → r .client ≡ s .client → r .start ≡ s .start → r .end ≡ s .end → r ≡ s
 row-path p q u = λ i. record { client = p i; start = q i; end = u i }
 
 kind : Kind Row (ℕ × ℕ)

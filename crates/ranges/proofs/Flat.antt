@@ -3,13 +3,13 @@ use mathlib.Core.Path.{_≡_, refl, ap, ap₂, sym, subst, _∙_}
 use mathlib.Core.List.{List, [], _∷_, _++_, map}
 use Prim.Native.Nat.{ℕ, zero, suc, _+_, _*_, _/_, _≤_, _<_}
 use native.Mathlib.Omega.{arith}
-use lib.ListN.{length, getD, take}
+use lib.ListN.{length, getD, take, length-map}
 use Rattle.tables.specs.Inner.Rows as inner
 use Rattle.tables.specs.Inner.Rows.{span, Follows}
-use Rattle.tables.proofs.Spanning.{Links, unit-links, spanned}
+use Rattle.tables.proofs.Spanning.{Links, unit-links, spanned, length-span, span-on}
 use Rattle.tables.proofs.Closing.{joined-follows}
-use Rattle.tables.proofs.Pushing.{row-is}
-use Rattle.ranges.specs.Rows.{Row, row, Joined}
+use Rattle.tables.proofs.Joining.{row-is}
+use Rattle.ranges.specs.Rows.{Row, Joined}
 use Rattle.ranges.specs.Tables.{rows, Table, flat}
 use Rattle.ranges.specs.Inner.{rowAt, rowsOf, Ruled}
 use Rattle.ranges.proofs.Plain.{plain, plain-joined, joined-plain}
@@ -20,11 +20,6 @@ two-on s e l j =
     row-is (ap (λ (n : ℕ). getD (s ∷ e ∷ l) n 0) (let q : 2 * suc j ≡ suc (suc (2 * j)) = omega arith in q))
     (ap (λ (n : ℕ). getD (s ∷ e ∷ l) n 0) (let q : 2 * suc j + 1 ≡ suc (suc (2 * j + 1)) = omega arith in q)) refl
 
-span-on : (row row′ : ℕ → inner.Row) (i k : ℕ) → ((j : ℕ) → row (suc j) ≡ row′ j) → span row (suc i) k ≡ span row′ i k
-unfolding span
-span-on row row′ i zero f = refl
-span-on row row′ i (suc k) f = ap₂ _∷_ (f i) (span-on row row′ (suc i) k f)
-
 -- the rows of a table, by their index
 pub rows-plain : (l : List ℕ) (n : ℕ) → n ≤ length l / 2 → map plain (rows l n) ≡ rowsOf l n
 unfolding rows span
@@ -32,14 +27,10 @@ rows-plain l zero h = refl
 rows-plain [] (suc n) h = absurd (omega arith)
 rows-plain (s ∷ []) (suc n) h = absurd (omega arith)
 rows-plain (s ∷ e ∷ l) (suc n) h =
-    ap₂ _∷_ (sym (row-is refl refl refl)) (rows-plain l n (omega arith) ∙ sym (span-on (rowAt (s ∷ e ∷ l)) (rowAt l) 0 n (two-on s e l)))
+    ap₂ _∷_ (sym (row-is refl refl refl)) (rows-plain l n (omega arith) ∙ span-on (rowAt l) (rowAt (s ∷ e ∷ l)) 0 n (λ j _ _. sym (two-on s e l j)))
 
 pub length-rows : (l : List ℕ) (n : ℕ) → n ≤ length l / 2 → length (rows l n) ≡ n
-unfolding rows
-length-rows l zero h = refl
-length-rows [] (suc n) h = absurd (omega arith)
-length-rows (s ∷ []) (suc n) h = absurd (omega arith)
-length-rows (s ∷ e ∷ l) (suc n) h = ap suc (length-rows l n (omega arith))
+length-rows l n h = sym (length-map (rows l n) plain) ∙ (ap length (rows-plain l n h) ∙ length-span (rowAt l) 0 n)
 
 pub flat-rows : (l : List ℕ) (n : ℕ) → n ≤ length l / 2 → flat (rows l n) ≡ take (2 * n) l
 unfolding rows flat

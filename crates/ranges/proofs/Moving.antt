@@ -2,16 +2,15 @@
 use mathlib.Core.Path.{_≡_, refl, ap, sym, subst, _∙_}
 use mathlib.Core.Logic.{⊎-elim}
 use mathlib.Core.List.{List, [], _∷_}
-use Prim.Native.Nat.{ℕ, suc, _+_, _-_, _*_, _≤_, _<_}
+use Prim.Native.Nat.{ℕ, _+_, _-_, _*_, _≤_, _<_}
 use native.Mathlib.Omega.{arith}
-use lib.ListN.{length, getD, set, length-set}
-use lib.Seq.{getD-set-same, getD-set-other}
+use lib.ListN.{length, getD, set}
+use lib.Seq.{getD-set-other}
 use borrow.Author.Tests.{lt-ltb, le-ltb}
 use Rattle.tables.specs.Inner.Rows.{span}
 use Rattle.tables.specs.Inner.Edit.{range, Moved, Stands}
-use Rattle.tables.proofs.Joining.{split}
-use Rattle.tables.proofs.Pushing.{row-is}
-use Rattle.tables.proofs.Copying.{Copied, copied-none, copied-more}
+use Rattle.tables.proofs.Joining.{split, row-is}
+use Rattle.tables.proofs.Copying.{Copied, copied-none, copied-more, Raised}
 use Rattle.ranges.specs.Inner.{rowAt}
 use Rattle.ranges.proofs.Stores.{added-below, added-at}
 
@@ -42,28 +41,8 @@ lowered-more {out₀} {out} {from} {to} {i} c h l =
       ahead = λ x m. getD-set-other out (to + i) x _ 0 (omega arith) ∙ c .ahead x (omega arith);
     }
 
--- and upward by one row: the elements from w on to b are moved
-pub record Raised (out₀ : List ℕ) (w b : ℕ) (out : List ℕ) : Type 0 where
-  pub same : length out ≡ length out₀
-  pub before2 : (x : ℕ) → x < w + 2 → getD out x 0 ≡ getD out₀ x 0
-  pub there : (x : ℕ) → w ≤ x → x < b → getD out (x + 2) 0 ≡ getD out₀ x 0
-
-pub raised-none : (out : List ℕ) (b : ℕ) → Raised out b b out
-raised-none out b = record { same = refl; before2 = λ x h. refl; there = λ x h l. absurd (omega arith) }
-
-pub raised-more : {out₀ out : List ℕ} {w b : ℕ} (v : ℕ) → Raised out₀ w b out → suc v ≡ w → v + 2 < length out₀ → Raised out₀ v b (set out (v + 2) (getD out v 0))
-raised-more {out₀} {out} {w} {b} v c e h =
-    record {
-      same = simp length-set (c .same);
-      before2 = λ x l. getD-set-other out (v + 2) x _ 0 (omega arith) ∙ c .before2 x (omega arith);
-      there = λ x l m. ⊎-elim
-          (λ a. getD-set-other out (v + 2) (x + 2) _ 0 (omega arith) ∙ c .there x (omega arith) m)
-          (λ a. ap (λ (y : ℕ). getD (set out (v + 2) (getD out v 0)) (y + 2) 0) (let z : x ≡ v = omega arith in z)
-          ∙ (getD-set-same out (v + 2) _ 0 (omega (arith, c .same)) ∙ (c .before2 v (omega arith) ∙ ap (λ (y : ℕ). getD out₀ y 0) (let z : v ≡ x = omega arith in z))))
-          (split v x);
-    }
-
-pub raised-rows : {out₀ out : List ℕ} {i k w : ℕ} → Raised out₀ w (2 * k) out → w ≡ 2 * i → Moved (rowAt out₀) i k (rowAt out₀) (i + 1) (rowAt out)
+-- and upward by one row
+pub raised-rows : {out₀ out : List ℕ} {i k w : ℕ} → Raised 2 out₀ w (2 * k) out → w ≡ 2 * i → Moved (rowAt out₀) i k (rowAt out₀) (i + 1) (rowAt out)
 raised-rows {out₀} {out} {i} {k} {w} c e =
     record {
       before2 = λ x l. row-is (c .before2 (2 * x) (omega arith)) (c .before2 (2 * x + 1) (omega arith)) refl;

@@ -5,7 +5,7 @@ use Prim.Native.Nat.{ℕ, suc, _+_, _-_, _*_, _≤_, _<_}
 use native.Mathlib.Omega.{arith}
 use Rattle.tables.specs.Inner.Edit.{Parted, Advanced}
 use Rattle.tables.proofs.Joining.{split}
-use Rattle.tables.proofs.Inserting.{Rising}
+use Rattle.tables.proofs.Climbing.{Rising}
 
 module _ (mark : ℕ → ℕ) (n x lo len q : ℕ) (up : Rising mark n) (some : 0 < q) (few : 4 * q ≤ len + 1) (p : Parted mark n x lo (lo + len)) where
   abbrev Left : ℕ → Type 0

@@ -6,7 +6,7 @@ use native.Mathlib.Omega.{arith}
 use lib.ListN.{length, set, length-set}
 use lib.Seq.{getD-set-same, getD-set-other}
 use Rattle.ranges.specs.Inner.{rowAt}
-use Rattle.tables.proofs.Pushing.{piece, row-is}
+use Rattle.tables.proofs.Joining.{piece, row-is}
 
 module _ (l : List ℕ) (k : ℕ) (h : 2 * k + 1 < length l) where
   pub grown-below : (e j : ℕ) → j < k → rowAt l j ≡ rowAt (set l (2 * k + 1) e) j

@@ -1,45 +1,33 @@
 -- What the small loops know, and one law for each way out and each turn. Assumes nothing.
-use mathlib.Core.Path.{_≡_, refl, ap, sym, subst, subst₂, _∙_}
+use mathlib.Core.Path.{_≡_, refl, ap, sym, subst, _∙_}
 use mathlib.Core.Logic.{⊎-elim}
-use mathlib.Core.Bool.{Bool, true, false, cond, _&&_, _||_, true≢false, false≢true}
+use mathlib.Core.Bool.{Bool, true, false, cond, _&&_, _||_, true≢false}
 use mathlib.Core.List.{List}
-use Prim.Native.Nat.{ℕ, zero, suc, _+_, _-_, _≤_, _<_, min}
+use Prim.Native.Nat.{ℕ, suc, _+_, _-_, _≤_, _<_, min}
 use native.Mathlib.Omega.{arith}
 use lib.Dec.{eqb, ltb}
 use lib.ListN.{length, getD, set}
 use lib.Seq.{getD-set-same, getD-set-other}
 use borrow.Author.Tests.{ltb-true, ltb-false, le-ltb, eqb-true, eqb-false, eq-eqb, ne-eqb}
 use Rattle.tables.specs.Inner.Climb.{Climbs}
-use Rattle.state_vector.specs.Inner.{Finds, Firsts, Opens, Nulls, anyLess, Unders}
+use Rattle.tables.specs.Inner.Edit.{Parted}
+use Rattle.tables.proofs.Climbing.{climbs-at}
+use Rattle.tables.proofs.Copying.{Raised, raised-none, raised-more}
+use Rattle.tables.proofs.Inserting.{parted-met}
+use Rattle.state_vector.specs.Inner.{Finds, Firsts, element, Opens, Nulls, anyLess, Unders}
 use Rattle.state_vector.proofs.Looking.{same-or-not}
 
 -- ## The place of a client
 
-pub climbs-le : {cs : List ℕ} {n : ℕ} → Climbs cs n → (i d : ℕ) → i + d < n → getD cs i 0 ≤ getD cs (i + d) 0
-climbs-le {cs} c i zero h = subst (λ (k : ℕ). getD cs i 0 ≤ getD cs k 0) (let e : i ≡ i + 0 = omega arith in e) (omega arith)
-climbs-le {cs} c i (suc d) h =
-    subst (λ (k : ℕ). getD cs i 0 ≤ getD cs k 0) (let e : suc (i + d) ≡ i + suc d = omega arith in e) (omega (arith, climbs-le c i d (omega arith), c .up (i + d) (omega arith)))
-
-climbs-at : {cs : List ℕ} {n : ℕ} → Climbs cs n → (i j : ℕ) → i ≤ j → j < n → getD cs i 0 ≤ getD cs j 0
-climbs-at {cs} c i j h l = subst (λ (k : ℕ). getD cs i 0 ≤ getD cs k 0) (let e : i + (j - i) ≡ j = omega arith in e) (climbs-le c i (j - i) (omega arith))
-
-pub record Halves (cs : List ℕ) (n c lo hi : ℕ) : Type 0 where
-  pub order : lo ≤ hi
-  pub within : hi ≤ n
-  pub below : (j : ℕ) → j < lo → getD cs j 0 < c
-  pub above : (j : ℕ) → hi ≤ j → j < n → c ≤ getD cs j 0
-
-pub halves-all : (cs : List ℕ) (n c : ℕ) → Halves cs n c 0 n
-halves-all cs n c = record { order = omega arith; within = omega arith; below = λ j h. absurd (omega arith); above = λ j g h. absurd (let z : ⊥ = omega arith in z) }
-
-pub halves-right : {cs : List ℕ} {n c lo hi : ℕ} (mid : ℕ) → Climbs cs n → Halves cs n c lo hi → mid < hi → getD cs mid 0 < c → Halves cs n c (mid + 1) hi
-halves-right mid g h l e = record { order = omega arith; within = h .within; below = λ j m. omega (arith, climbs-at g j mid (omega arith) (omega (arith, h .within))); above = h .above }
-
-pub halves-left : {cs : List ℕ} {n c lo hi : ℕ} (mid : ℕ) → Climbs cs n → Halves cs n c lo hi → lo ≤ mid → mid < hi → c ≤ getD cs mid 0 → Halves cs n c lo mid
-halves-left mid g h a b e = record { order = a; within = omega (arith, h .within); below = h .below; above = λ j l m. omega (arith, climbs-at g mid j l m) }
-
-pub halves-found : {cs : List ℕ} {n c lo hi : ℕ} → Halves cs n c lo hi → hi ≤ lo → Finds cs n c lo
-halves-found h l = record { within = omega (arith, h .within, h .order); below = h .below; above = λ j a b. h .above j (omega arith) b }
+-- the search by halving has met
+pub finds-met : {cs : List ℕ} {n c lo hi : ℕ} → Climbs cs n → Parted (element cs) n c lo hi → hi ≤ lo → Finds cs n c lo
+finds-met {lo = lo} g h l =
+    let p = parted-met h l in
+    record {
+      within = p .within;
+      below = λ j b. omega (arith, climbs-at g j (lo - 1) (omega arith) (omega (arith, p .within)), p .below (lo - 1) (omega arith));
+      above = λ j a b. omega (arith, climbs-at g lo j a b, p .above (omega arith));
+    }
 
 pub finds-last : {cs : List ℕ} {n c : ℕ} → Climbs cs n → 0 < n → getD cs (n - 1) 0 < c → Finds cs n c n
 finds-last {cs} {n} g z l = record { within = omega arith; below = λ j h. omega (arith, climbs-at g j (n - 1) (omega arith) (omega arith)); above = λ j a b. absurd (let y : ⊥ = omega arith in y) }
@@ -66,28 +54,24 @@ firsts-all c h = record { are = λ j l. c .are j (omega arith) }
 pub record Opening (i n : ℕ) (s out : List ℕ) (j : ℕ) : Type 0 where
   pub low : i ≤ j
   pub high : j ≤ n
-  pub kept : (k : ℕ) → k < j → getD out k 0 ≡ getD s k 0
-  pub moved : (k : ℕ) → j ≤ k → k < n → getD out (suc k) 0 ≡ getD s k 0
+  pub raised : Raised 1 s j n out
 
 pub opening-none : (i n : ℕ) (s : List ℕ) → i ≤ n → Opening i n s s n
-opening-none i n s h = record { low = h; high = omega arith; kept = λ k _. refl; moved = λ k a b. absurd (let z : ⊥ = omega arith in z) }
+opening-none i n s h = record { low = h; high = omega arith; raised = raised-none s n }
 
 pub opening-more : {i n : ℕ} {s out : List ℕ} {j : ℕ} → Opening i n s out j → i < j → j < length out → Opening i n s (set out j (getD out (j - 1) 0)) (j - 1)
 opening-more {i} {n} {s} {out} {j} c h l = record {
   low = omega arith;
   high = omega (arith, c .high);
-  kept = λ k m. getD-set-other out j k v 0 (λ e. omega arith) ∙ c .kept k (omega arith);
-  moved = λ k a b. ⊎-elim
-      (λ (e : suc k ≡ j). subst (λ (x : ℕ). getD (set out j v) x 0 ≡ getD s k 0) (sym e) (getD-set-same out j v 0 l ∙ c .kept (j - 1) (omega arith)
-      ∙ ap (λ (x : ℕ). getD s x 0) (let z : j - 1 ≡ k = omega arith in z)))
-      (λ n. getD-set-other out j (suc k) v 0 n ∙ c .moved k (omega arith) b) (same-or-not (suc k) j);
+  raised = subst (λ (k : ℕ). Raised 1 s (j - 1) n (set out k (getD out (j - 1) 0))) (let z : j - 1 + 1 ≡ j = omega arith in z)
+      (raised-more (j - 1) (c .raised) (omega arith) (omega (arith, c .raised .same)));
 }
-  where
-    v : ℕ
-    v = getD out (j - 1) 0
 
 pub opening-all : {i n : ℕ} {s out : List ℕ} {j : ℕ} → Opening i n s out j → j ≤ i → Opens i n s out
-opening-all c h = record { kept = λ k l. c .kept k (omega (arith, c .low)); moved = λ k a b. c .moved k (omega arith) b }
+opening-all {s = s} {out = out} c h = record {
+  kept = λ k l. c .raised .before2 k (omega (arith, c .low));
+  moved = λ k a b. ap (λ (x : ℕ). getD out x 0) (let z : suc k ≡ k + 1 = omega arith in z) ∙ c .raised .there k (omega arith) b;
+}
 
 -- ## Clocks above 0
 

@@ -4,14 +4,14 @@ use mathlib.Core.List.{List, [], _∷_, _++_, append-nil, append-assoc, map}
 use Prim.Native.Nat.{ℕ, _+_, _-_, _≤_, _<_}
 use native.Mathlib.Omega.{arith}
 use lib.ListN.{length, take, set, replicate, length-append}
-use lib.Seq.{getD-set-same, getD-set-other, length-take-le}
+use lib.Seq.{getD-set-same, getD-set-other}
 use Rattle.tables.specs.Answers.{padded, done, full, malformed}
 use Rattle.tables.specs.declared.Made.{Made}
 use Rattle.tables.specs.declared.Made.the-variants as made
 use Rattle.varint.specs.declared.Refusal.the-variants.{Malformed}
 use Rattle.tables.specs.Answers.{saidMade}
 use Rattle.state_vector.specs.Rows.{Row, row}
-use Rattle.state_vector.specs.Vectors.{Slices, two, rowsOf, room, most, filled, Writes}
+use Rattle.state_vector.specs.Vectors.{Slices, two, room, most, filled, Writes}
 use Rattle.tables.specs.Inner.Rows.{span}
 use Rattle.state_vector.specs.Inner.{rowAt, Holds, Closes, fits, over, Stores, Rests}
 use Rattle.tables.proofs.Spanning.{span-append, span-snoc, span-none, span-same, padded-column}

@@ -7,16 +7,14 @@ use lib.Dec.{leb, ltb}
 use native.Mathlib.Omega.{arith}
 use Rattle.tables.specs.Inner.Rows.{Row, Rows, at, span}
 use Rattle.tables.specs.Answers.{Says}
+use Rattle.tables.proofs.Climbing.{rising}
 use Rattle.tables.proofs.Joining.{at-here, at-past, at-below}
 use Rattle.tables.proofs.Spanning.{Links, spanned, span-cons, span-none}
 
 module _ (row : ℕ → Row) (n : ℕ) (f : (j : ℕ) → j < n → Links row j) where
   -- rows rise
   pub ends-rise : (i d : ℕ) → i + d < n → row i .end ≤ row (i + d) .end
-  ends-rise i zero h = subst (λ (k : ℕ). row i .end ≤ row k .end) (let e : i ≡ i + 0 = omega arith in e) (omega arith)
-  ends-rise i (suc d) h =
-      subst (λ (k : ℕ). row i .end ≤ row k .end) (let e : suc (i + d) ≡ i + suc d = omega arith in e)
-      (omega (arith, ends-rise i d (omega arith), f (suc (i + d)) (omega arith) .behind (i + d) refl, f (suc (i + d)) (omega arith) .filled))
+  ends-rise i d h = rising (λ j. row j .end) n (λ j l. omega (arith, f (suc j) l .behind j refl, f (suc j) l .filled)) i (i + d) (omega arith) h
 
   -- rows that end at x or before are passed over
   pub skip : (x lo d hi : ℕ) → hi ≤ n → lo + d < hi → row (lo + d) .end ≤ x → at (span row lo (hi - lo)) x ≡ at (span row (suc (lo + d)) (hi - suc (lo + d))) x

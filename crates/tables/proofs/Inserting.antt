@@ -10,9 +10,9 @@ use lib.Dec.{leb, ltb}
 use borrow.Author.Tests.{lt-ltb, le-ltb}
 use Rattle.tables.specs.Inner.Rows.{Row, Rows, at, JoinedFrom, Joined, combined, union, difference, span}
 use Rattle.tables.specs.Inner.Edit.{Plain, range, Advanced, Parted, starts, ends, Starting, Ending}
-use Rattle.tables.proofs.Joining.{split, at-here, at-past, at-before}
+use Rattle.tables.proofs.Climbing.{Rising, rising}
+use Rattle.tables.proofs.Joining.{split, at-here, at-past, at-before, piece}
 use Rattle.tables.proofs.Meaning.{combined-joined, combined-at, combined-only}
-use Rattle.tables.proofs.Pushing.{piece}
 use Rattle.tables.proofs.Spanning.{Links, unit-links, spanned, span-append}
 use Rattle.tables.proofs.Closing.{span-unit}
 use Rattle.tables.proofs.Finding.{found}
@@ -36,10 +36,6 @@ module _ {mark : ℕ → ℕ} {n x lo hi : ℕ} (mid : ℕ) where
   -- it is not
   pub parted-left : Parted mark n x lo hi → lo ≤ mid → mid < hi → x ≤ mark mid → Parted mark n x lo mid
   parted-left p a b h = record { order = a; within = omega (arith, p .within); below = p .below; above = λ _. h }
-
--- marks rise
-abbrev pub Rising : (ℕ → ℕ) → ℕ → Type 0
-Rising mark n = (k j : ℕ) → k ≤ j → j < n → mark k ≤ mark j
 
 -- a look at the last mark of the front half: as many marks are left possible either way
 pub parted-half : {mark : ℕ → ℕ} {n x lo len r : ℕ} (half : ℕ) → Rising mark n → half ≡ len - len / 2 → 0 < len → Parted mark n x lo (lo + len)
@@ -176,32 +172,20 @@ module _ (row : ℕ → Row) (n : ℕ) (t : Plain row n) where
   pub plain-links : (j : ℕ) → j < n → Links row j
   plain-links j h = unit-links row j (t .unit) (t .ruled j h)
 
-  -- rows rise
-  pub apart : (k d : ℕ) → suc (k + d) < n → row k .end < row (suc (k + d)) .start
-  apart k d h = go d h
-    where
-      next : (m : ℕ) → suc m < n → row m .end < row (suc m) .start
-      next m l = subst (λ (j : ℕ). row j .end < row (suc m) .start) (let z : suc m - 1 ≡ m = omega arith in z) (t .ruled (suc m) l .apart (omega arith))
+  next : (m : ℕ) → suc m < n → row m .end < row (suc m) .start
+  next m l = subst (λ (j : ℕ). row j .end < row (suc m) .start) (let z : suc m - 1 ≡ m = omega arith in z) (t .ruled (suc m) l .apart (omega arith))
 
-      go : (d : ℕ) → suc (k + d) < n → row k .end < row (suc (k + d)) .start
-      go zero l = subst (λ (j : ℕ). row k .end < row (suc j) .start) (let z : k ≡ k + 0 = omega arith in z) (next k (omega arith))
-      go (suc d) l = subst (λ (j : ℕ). row k .end < row (suc j) .start) (let z : suc (k + d) ≡ k + suc d = omega arith in z)
-          (omega (arith, go d (omega arith), t .ruled (suc (k + d)) (omega arith) .filled, next (suc (k + d)) (omega arith)))
+  -- rows rise
+  pub ends-rising : Rising (ends row) n
+  ends-rising = rising (ends row) n (λ m l. omega (arith, next m l, t .ruled (suc m) l .filled))
+
+  pub starts-rising : Rising (starts row) n
+  starts-rising = rising (starts row) n (λ m l. omega (arith, next m l, t .ruled m (omega arith) .filled))
 
   pub apart-to : (k j : ℕ) → k < j → j < n → row k .end < row j .start
   apart-to k j h l =
-      let z : suc (k + (j - suc k)) ≡ j = omega arith in
-      subst (λ (m : ℕ). row k .end < row m .start) z (apart k (j - suc k) (omega arith))
-
-  pub ends-rising : Rising (ends row) n
-  ends-rising k j h l = ⊎-elim
-      (λ z. omega (arith, apart-to k j z l, t .ruled j l .filled))
-      (λ z. let e : k ≡ j = omega arith in omega (arith, ap (λ (m : ℕ). row m .end) e)) (split k j)
-
-  pub starts-rising : Rising (starts row) n
-  starts-rising k j h l = ⊎-elim
-      (λ z. omega (arith, apart-to k j z l, t .ruled k (omega arith) .filled))
-      (λ z. let e : k ≡ j = omega arith in omega (arith, ap (λ (m : ℕ). row m .start) e)) (split k j)
+      subst (λ (m : ℕ). row k .end < row m .start) (let z : suc (j - 1) ≡ j = omega arith in z)
+      (omega (arith, ends-rising k (j - 1) (omega arith) (omega arith), next (j - 1) (omega arith)))
 
   -- the front rows with joined rows behind them
   front-joined : (c : ℕ) (ys : Rows) → From c ys → (a k lo w : ℕ) → a + k ≤ n → ((j : ℕ) → a ≤ j → j < a + k → row j .end < c)

@@ -1,5 +1,5 @@
 -- Two joined tables with the same weights are the same table, and every weighing below a bound has one. Assumes nothing.
-use mathlib.Core.Path.{_≡_, refl, ap, ap₂, sym, subst₂, _∙_}
+use mathlib.Core.Path.{_≡_, refl, ap, ap₂, sym, _∙_}
 use mathlib.Core.Logic.{_⊎_, inl, inr, ⊎-elim}
 use mathlib.Core.List.{[], _∷_}
 use mathlib.Core.Bool.{Bool, true, false, cond, _&&_}
@@ -44,8 +44,11 @@ at-below lo w (r ∷ rs) j h = at-before r rs (omega arith) ∙ at-below (r .end
 
 -- ## There is one table
 
-row-path : {r q : Row} → r .start ≡ q .start → r .end ≡ q .end → r .weight ≡ q .weight → r ≡ q
-row-path a b c = λ i. record { start = a i; end = b i; weight = c i }
+abbrev pub piece : ℕ → ℕ → ℕ → Row
+piece s e w = record { start = s; end = e; weight = w }
+
+pub row-is : {r : Row} {s e w : ℕ} → r .start ≡ s → r .end ≡ e → r .weight ≡ w → r ≡ piece s e w
+row-is a b c = λ i. record { start = a i; end = b i; weight = c i }
 
 -- a number and its weight, in a row and past it
 abbrev In : Row → ℕ × ℕ → Type 0
@@ -95,7 +98,7 @@ kind =
           let k : q .start < q .end = omega (arith, y .1 .0, y .1 .1) in
           let s : r .start ≡ q .start = omega (arith, starts r q h k f, starts q r k h g) in
           let v = weights r q h k s f in
-          row-path s (omega (arith, ends r q k s v f, ends q r h (sym s) (sym v) g)) v;
+          row-is s (omega (arith, ends r q k s v f, ends q r h (sym s) (sym v) g)) v;
     }
 
 pub unique : (a b : Rows) → Joined a → Joined b → ((x : ℕ) → at a x ≡ at b x) → a ≡ b

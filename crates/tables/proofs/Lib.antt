@@ -5,6 +5,7 @@ pub mod Saying
 pub mod Unique
 pub mod Joining
 pub mod Meaning
+pub mod Testing
 pub mod Climbing
 pub mod Counting
 pub mod Spanning

@@ -8,14 +8,8 @@ use native.Mathlib.Numerals.{add-one}
 use lib.ListN.{length, length-append}
 use Rattle.tables.specs.Inner.Rows.{Row, Rows, push, span}
 use Rattle.tables.specs.Inner.Sweep.{Touches, Pushes, Holds}
-use Rattle.tables.proofs.Joining.{split, pushed, Pushed, grown, added}
+use Rattle.tables.proofs.Joining.{split, pushed, Pushed, grown, added, piece}
 use Rattle.tables.proofs.Spanning.{length-span, span-snoc, span-same, push-last, push-grows, push-adds}
-
-abbrev pub piece : ℕ → ℕ → ℕ → Row
-piece s e w = record { start = s; end = e; weight = w }
-
-pub row-is : {r : Row} {s e w : ℕ} → r .start ≡ s → r .end ≡ e → r .weight ≡ w → r ≡ piece s e w
-row-is a b c = λ i. record { start = a i; end = b i; weight = c i }
 
 -- rows that agree with the old ones below k, and then a row r
 snoc : (row row′ : ℕ → Row) (k : ℕ) (r : Row) → ((j : ℕ) → j < k → row j ≡ row′ j) → row′ k ≡ r → span row′ 0 (suc k) ≡ span row 0 k ++ (r ∷ [])

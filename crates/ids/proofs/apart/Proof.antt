@@ -2,13 +2,10 @@
 use native.Mathlib.Omega.{arith}
 use Prim.Native.Nat.{_+_, _≤_, _-_}
 use Rattle.ids.specs.Inner.{Apart}
-use Rattle.ids.proofs.Checking.{Tested, tested-none, tested-more, tested-pairs}
+use Rattle.tables.proofs.Testing.{Tested, tested-none, tested-more, tested-pairs}
 use borrow.Author.Needs.{needs}
 use Rattle.ids.proofs.apart.Statement.{statement}
 use Rattle.ids.proofs.apart.Tie as tie
-use Rattle.ids.proofs.apart.Reads as reads
-use Rattle.ids.proofs.apart.Lts as lts
-use Rattle.ids.proofs.follows.Reads as follows-reads
 
 abbrev Inv-loop : tie.InvT-loop
 Inv-loop clients starts ends n ok₀ i₀ ok i = (i ≤ n - 1) × Tested (Apart clients starts ends) i ok

@@ -2,9 +2,6 @@ use Rattle.ids.proofs.Checking.{checked-both}
 use borrow.Author.Needs.{needs}
 use Rattle.ids.proofs.both_formed.Statement.{statement}
 use Rattle.ids.proofs.both_formed.Tie as tie
-use Rattle.ids.proofs.both_formed.Reads as reads
-use Rattle.ids.proofs.both_formed.Lts as lts
-use Rattle.ids.proofs.well_formed.Reads as well-formed-reads
 
 well-formed-requires : tie.Need-well-formed-requires
 well-formed-requires c κs = search needs

@@ -5,9 +5,6 @@ use Rattle.ids.proofs.Asking.{Counting, fresh-most, one-more, counting-
 use borrow.Author.Needs.{needs}
 use Rattle.ids.proofs.count_clients.Statement.{statement}
 use Rattle.ids.proofs.count_clients.Tie as tie
-use Rattle.ids.proofs.count_clients.Reads as reads
-use Rattle.ids.proofs.count_clients.Lts as lts
-use Rattle.ids.proofs.fresh.Reads as fresh-reads
 
 abbrev Inv-loop : tie.InvT-loop
 Inv-loop clients starts ends n many₀ i₀ many i = (i < n) × (many ≤ n - i) × Counting clients starts ends i (n - i) many

@@ -3,9 +3,6 @@ use mathlib.Core.Path.{refl}
 use borrow.Author.Needs.{needs}
 use Rattle.ids.proofs.counted.Statement.{statement}
 use Rattle.ids.proofs.counted.Tie as tie
-use Rattle.ids.proofs.counted.Reads as reads
-use Rattle.ids.proofs.counted.Lts as lts
-use Rattle.ids.proofs.past.Reads as past-reads
 
 past-requires : tie.Need-past-requires
 past-requires c κs = search needs

@@ -10,11 +10,6 @@ use Rattle.ids.proofs.Numbering.{links}
 use Rattle.ids.proofs.Sharing.{crossing-more}
 use Rattle.ids.proofs.cross.Statement.{statement}
 use Rattle.ids.proofs.cross.Tie as tie
-use Rattle.ids.proofs.cross.Reads as reads
-use Rattle.ids.proofs.cross.Lts as lts
-use Rattle.ids.proofs.keep.Reads as keep-reads
-use Rattle.ids.proofs.row_at.Reads as row-at-reads
-use Rattle.ids.proofs.share.Reads as share-reads
 
 abbrev Inv-loop : tie.InvT-loop
 Inv-loop clients starts ends n b-clients b-starts b-ends m to-clients₀ to-starts₀ to-ends₀ most i₀ j₀ k₀ to-clients to-starts to-ends i j k =

@@ -2,12 +2,6 @@ use Rattle.ids.proofs.Merging.{earlier}
 use borrow.Author.Needs.{needs}
 use Rattle.ids.proofs.earlier.Statement.{statement}
 use Rattle.ids.proofs.earlier.Tie as tie
-use Rattle.ids.proofs.earlier.Reads as reads
-use Rattle.ids.proofs.earlier.Lts as lts
-use Rattle.ids.proofs.pick.Reads as pick-reads
-use Rattle.ids.proofs.pick_place.Reads as pick-place-reads
-use Rattle.ids.proofs.pick_wide.Reads as pick-wide-reads
-use Rattle.ids.proofs.precedes.Reads as precedes-reads
 
 precedes-requires : tie.Need-precedes-requires
 precedes-requires c κs = search needs

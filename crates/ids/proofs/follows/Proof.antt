@@ -1,9 +1,8 @@
-use Rattle.ids.proofs.Checking.{less-says, same-says, other-says}
+use Rattle.tables.proofs.Testing.{less-says}
+use Rattle.ids.proofs.Checking.{same-says, other-says}
 use borrow.Author.Needs.{needs}
 use Rattle.ids.proofs.follows.Statement.{statement}
 use Rattle.ids.proofs.follows.Tie as tie
-use Rattle.ids.proofs.follows.Reads as reads
-use Rattle.ids.proofs.follows.Lts as lts
 
 mul-c : tie.Need-mul-c
 mul-c c = search needs

@@ -3,8 +3,6 @@ use Rattle.ids.proofs.Checking.{further-old, further-new}
 use borrow.Author.Needs.{needs}
 use Rattle.ids.proofs.further.Statement.{statement}
 use Rattle.ids.proofs.further.Tie as tie
-use Rattle.ids.proofs.further.Reads as reads
-use Rattle.ids.proofs.further.Lts as lts
 
 add-f : tie.Need-add-f
 add-f c = search needs

@@ -3,9 +3,6 @@ use Rattle.ids.proofs.Asking.{told-malformed, told-yes, told-no, no-row
 use borrow.Author.Needs.{needs}
 use Rattle.ids.proofs.is_empty.Statement.{statement}
 use Rattle.ids.proofs.is_empty.Tie as tie
-use Rattle.ids.proofs.is_empty.Reads as reads
-use Rattle.ids.proofs.is_empty.Lts as lts
-use Rattle.ids.proofs.well_formed.Reads as well-formed-reads
 
 well-formed-requires : tie.Need-well-formed-requires
 well-formed-requires c κs = search needs

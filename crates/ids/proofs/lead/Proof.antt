@@ -3,9 +3,6 @@ use mathlib.Core.Path.{refl}
 use borrow.Author.Needs.{needs}
 use Rattle.ids.proofs.lead.Statement.{statement}
 use Rattle.ids.proofs.lead.Tie as tie
-use Rattle.ids.proofs.lead.Reads as reads
-use Rattle.ids.proofs.lead.Lts as lts
-use Rattle.ids.proofs.precedes.Reads as precedes-reads
 
 returns : tie.Need-returns
 returns c = search needs

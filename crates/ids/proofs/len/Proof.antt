@@ -3,10 +3,6 @@ use Rattle.ids.proofs.Asking.{counted-malformed, counted-is}
 use borrow.Author.Needs.{needs}
 use Rattle.ids.proofs.len.Statement.{statement}
 use Rattle.ids.proofs.len.Tie as tie
-use Rattle.ids.proofs.len.Reads as reads
-use Rattle.ids.proofs.len.Lts as lts
-use Rattle.ids.proofs.count_clients.Reads as count-clients-reads
-use Rattle.ids.proofs.well_formed.Reads as well-formed-reads
 
 well-formed-requires : tie.Need-well-formed-requires
 well-formed-requires c κs = search needs

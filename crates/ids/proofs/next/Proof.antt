@@ -5,10 +5,6 @@ use Rattle.ids.proofs.Merging.{takes}
 use borrow.Author.Needs.{needs}
 use Rattle.ids.proofs.next.Statement.{statement}
 use Rattle.ids.proofs.next.Tie as tie
-use Rattle.ids.proofs.next.Reads as reads
-use Rattle.ids.proofs.next.Lts as lts
-use Rattle.ids.proofs.earlier.Reads as earlier-reads
-use Rattle.ids.proofs.row_at.Reads as row-at-reads
 
 row-at-requires : tie.Need-row-at-requires
 row-at-requires c κs = search needs

@@ -2,12 +2,10 @@
 use native.Mathlib.Omega.{arith}
 use Prim.Native.Nat.{_≤_, _-_}
 use Rattle.ids.specs.Inner.{NoneEmpty}
-use Rattle.ids.proofs.Checking.{Tested, tested-none, tested-more, tested-all, less-says}
+use Rattle.tables.proofs.Testing.{Tested, tested-none, tested-more, tested-all, less-says}
 use borrow.Author.Needs.{needs}
 use Rattle.ids.proofs.none_empty.Statement.{statement}
 use Rattle.ids.proofs.none_empty.Tie as tie
-use Rattle.ids.proofs.none_empty.Reads as reads
-use Rattle.ids.proofs.none_empty.Lts as lts
 
 abbrev Inv-loop : tie.InvT-loop
 Inv-loop starts ends n ok₀ i₀ ok i = (i ≤ n) × Tested (NoneEmpty starts ends) i ok

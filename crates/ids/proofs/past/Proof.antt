@@ -2,8 +2,6 @@ use native.Mathlib.Omega.{arith}
 use Rattle.ids.proofs.Checking.{past-says}
 use Rattle.ids.proofs.past.Statement.{statement}
 use Rattle.ids.proofs.past.Tie as tie
-use Rattle.ids.proofs.past.Reads as reads
-use Rattle.ids.proofs.past.Lts as lts
 
 returns : tie.Need-returns
 returns c = past-says _ _ _ _ (omega arith) (omega arith)

@@ -1,8 +1,6 @@
 use Rattle.ids.proofs.Checking.{picked-yes, picked-no}
 use Rattle.ids.proofs.pick_wide.Statement.{statement}
 use Rattle.ids.proofs.pick_wide.Tie as tie
-use Rattle.ids.proofs.pick_wide.Reads as reads
-use Rattle.ids.proofs.pick_wide.Lts as lts
 
 returns : tie.Need-returns
 returns c = picked-yes _ (c .if1 .taken)

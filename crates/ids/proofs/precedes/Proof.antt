@@ -1,9 +1,8 @@
 use native.Mathlib.Omega.{arith}
-use Rattle.ids.proofs.Checking.{less-says, same-says, other-says}
+use Rattle.tables.proofs.Testing.{less-says}
+use Rattle.ids.proofs.Checking.{same-says, other-says}
 use Rattle.ids.proofs.precedes.Statement.{statement}
 use Rattle.ids.proofs.precedes.Tie as tie
-use Rattle.ids.proofs.precedes.Reads as reads
-use Rattle.ids.proofs.precedes.Lts as lts
 
 returns : tie.Need-returns
 returns c = same-says _ (c .if1 .taken) (less-says _ _)

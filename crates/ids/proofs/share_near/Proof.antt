@@ -2,10 +2,6 @@ use Rattle.ids.proofs.Sharing.{shares-near}
 use borrow.Author.Needs.{needs}
 use Rattle.ids.proofs.share_near.Statement.{statement}
 use Rattle.ids.proofs.share_near.Tie as tie
-use Rattle.ids.proofs.share_near.Reads as reads
-use Rattle.ids.proofs.share_near.Lts as lts
-use Rattle.ids.proofs.pick.Reads as pick-reads
-use Rattle.ids.proofs.pick_place.Reads as pick-place-reads
 
 pick-requires : tie.Need-pick-requires
 pick-requires c κs = search needs

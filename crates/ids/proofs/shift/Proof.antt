@@ -6,8 +6,6 @@ use Rattle.ids.proofs.Splicing.{copied-all}
 use borrow.Author.Needs.{needs}
 use Rattle.ids.proofs.shift.Statement.{statement}
 use Rattle.ids.proofs.shift.Tie as tie
-use Rattle.ids.proofs.shift.Reads as reads
-use Rattle.ids.proofs.shift.Lts as lts
 
 abbrev Inv-loop : tie.InvT-loop
 Inv-loop src a b out₀ to len i₀ out i = Copied src a out₀ to i out × (i ≤ b - a)

@@ -6,8 +6,6 @@ use Rattle.ids.proofs.Splicing.{copied-all}
 use borrow.Author.Needs.{needs}
 use Rattle.ids.proofs.shift_wide.Statement.{statement}
 use Rattle.ids.proofs.shift_wide.Tie as tie
-use Rattle.ids.proofs.shift_wide.Reads as reads
-use Rattle.ids.proofs.shift_wide.Lts as lts
 
 abbrev Inv-loop : tie.InvT-loop
 Inv-loop src a b out₀ to len i₀ out i = Copied src a out₀ to i out × (i ≤ b - a)

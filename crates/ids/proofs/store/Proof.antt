@@ -3,8 +3,6 @@ use Rattle.ids.proofs.Placing.{stored, unstored}
 use borrow.Author.Needs.{needs}
 use Rattle.ids.proofs.store.Statement.{statement}
 use Rattle.ids.proofs.store.Tie as tie
-use Rattle.ids.proofs.store.Reads as reads
-use Rattle.ids.proofs.store.Lts as lts
 
 mul-out : tie.Need-mul-out
 mul-out c = search needs

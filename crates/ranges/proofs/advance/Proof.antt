@@ -3,8 +3,6 @@ use Rattle.tables.proofs.Inserting.{advanced, advanced-most}
 use borrow.Author.Needs.{needs}
 use Rattle.ranges.proofs.advance.Statement.{statement}
 use Rattle.ranges.proofs.advance.Tie as tie
-use Rattle.ranges.proofs.advance.Reads as reads
-use Rattle.ranges.proofs.advance.Lts as lts
 
 add-below : tie.Need-add-below
 add-below c = search needs

@@ -3,8 +3,6 @@ use Rattle.tables.proofs.Saying.{says-yes, says-no}
 use borrow.Author.Needs.{needs}
 use Rattle.ranges.proofs.apart.Statement.{statement}
 use Rattle.ranges.proofs.apart.Tie as tie
-use Rattle.ranges.proofs.apart.Reads as reads
-use Rattle.ranges.proofs.apart.Lts as lts
 
 add-i : tie.Need-add-i
 add-i c = search needs

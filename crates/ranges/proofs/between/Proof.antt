@@ -2,8 +2,6 @@ use native.Mathlib.Omega.{arith}
 use Rattle.tables.proofs.Saying.{says-yes, says-no}
 use Rattle.ranges.proofs.between.Statement.{statement}
 use Rattle.ranges.proofs.between.Tie as tie
-use Rattle.ranges.proofs.between.Reads as reads
-use Rattle.ranges.proofs.between.Lts as lts
 
 returns : tie.Need-returns
 returns c = says-no (λ h. omega (arith, h .0))

@@ -2,9 +2,6 @@ use Rattle.tables.proofs.Saying.{says-both}
 use borrow.Author.Needs.{needs}
 use Rattle.ranges.proofs.both.Statement.{statement}
 use Rattle.ranges.proofs.both.Tie as tie
-use Rattle.ranges.proofs.both.Reads as reads
-use Rattle.ranges.proofs.both.Lts as lts
-use Rattle.ranges.proofs.well_formed.Reads as well-formed-reads
 
 well-formed-requires : tie.Need-well-formed-requires
 well-formed-requires c κs = search needs

@@ -6,10 +6,6 @@ use Rattle.ranges.proofs.Asking.{refused, told, end-last, edge-none}
 use borrow.Author.Needs.{needs}
 use Rattle.ranges.proofs.clock_end.Statement.{statement}
 use Rattle.ranges.proofs.clock_end.Tie as tie
-use Rattle.ranges.proofs.clock_end.Reads as reads
-use Rattle.ranges.proofs.clock_end.Lts as lts
-use Rattle.ranges.proofs.end_at.Reads as end-at-reads
-use Rattle.ranges.proofs.well_formed.Reads as well-formed-reads
 
 well-formed-requires : tie.Need-well-formed-requires
 well-formed-requires c κs = search needs

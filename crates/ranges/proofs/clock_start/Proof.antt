@@ -6,10 +6,6 @@ use Rattle.ranges.proofs.Asking.{refused, told, start-row, edge-none}
 use borrow.Author.Needs.{needs}
 use Rattle.ranges.proofs.clock_start.Statement.{statement}
 use Rattle.ranges.proofs.clock_start.Tie as tie
-use Rattle.ranges.proofs.clock_start.Reads as reads
-use Rattle.ranges.proofs.clock_start.Lts as lts
-use Rattle.ranges.proofs.start_at.Reads as start-at-reads
-use Rattle.ranges.proofs.well_formed.Reads as well-formed-reads
 
 well-formed-requires : tie.Need-well-formed-requires
 well-formed-requires c κs = search needs

@@ -5,11 +5,6 @@ use Rattle.ranges.proofs.Asking.{refused, told, held-at, held-none}
 use borrow.Author.Needs.{needs}
 use Rattle.ranges.proofs.contains_clock.Statement.{statement}
 use Rattle.ranges.proofs.contains_clock.Tie as tie
-use Rattle.ranges.proofs.contains_clock.Reads as reads
-use Rattle.ranges.proofs.contains_clock.Lts as lts
-use Rattle.ranges.proofs.ends_below.Reads as ends-below-reads
-use Rattle.ranges.proofs.start_at.Reads as start-at-reads
-use Rattle.ranges.proofs.well_formed.Reads as well-formed-reads
 
 well-formed-requires : tie.Need-well-formed-requires
 well-formed-requires c κs = search needs

@@ -5,8 +5,6 @@ use native.Mathlib.Omega.{arith}
 use borrow.Author.Needs.{needs}
 use Rattle.ranges.proofs.copy.Statement.{statement}
 use Rattle.ranges.proofs.copy.Tie as tie
-use Rattle.ranges.proofs.copy.Reads as reads
-use Rattle.ranges.proofs.copy.Lts as lts
 
 abbrev Inv-loop : tie.InvT-loop
 Inv-loop src a b out₀ c from to len i₀ out i = Copied src (2 * a) out₀ (2 * c) i out × (i ≤ 2 * (b - a))

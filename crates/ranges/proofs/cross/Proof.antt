@@ -10,14 +10,6 @@ use Rattle.ranges.proofs.Walking.{Walk, walk-none, walk-bounds, walk-up
 use borrow.Author.Needs.{needs}
 use Rattle.ranges.proofs.cross.Statement.{statement}
 use Rattle.ranges.proofs.cross.Tie as tie
-use Rattle.ranges.proofs.cross.Reads as reads
-use Rattle.ranges.proofs.cross.Lts as lts
-use Rattle.ranges.proofs.apart.Reads as apart-reads
-use Rattle.ranges.proofs.between.Reads as between-reads
-use Rattle.ranges.proofs.down.Reads as down-reads
-use Rattle.ranges.proofs.row_at.Reads as row-at-reads
-use Rattle.ranges.proofs.settle.Reads as settle-reads
-use Rattle.ranges.proofs.up.Reads as up-reads
 
 abbrev Inv-loop : tie.InvT-loop
 Inv-loop a n b m out₀ most w₀ z₀ out w z = (length out ≡ length out₀) × Walk a n (rowAt b) m most out (w .i) (w .j) (w .k) (z .u) (z .v) (z .t)

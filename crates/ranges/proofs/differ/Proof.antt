@@ -12,17 +12,6 @@ use Rattle.ranges.proofs.Walking.{Walk, walk-none, walk-bounds, walk-up
 use borrow.Author.Needs.{needs}
 use Rattle.ranges.proofs.differ.Statement.{statement}
 use Rattle.ranges.proofs.differ.Tie as tie
-use Rattle.ranges.proofs.differ.Reads as reads
-use Rattle.ranges.proofs.differ.Lts as lts
-use Rattle.ranges.proofs.apart.Reads as apart-reads
-use Rattle.ranges.proofs.between.Reads as between-reads
-use Rattle.ranges.proofs.down.Reads as down-reads
-use Rattle.ranges.proofs.gap_at.Reads as gap-at-reads
-use Rattle.ranges.proofs.gaps_from.Reads as gaps-from-reads
-use Rattle.ranges.proofs.gaps_to.Reads as gaps-to-reads
-use Rattle.ranges.proofs.row_at.Reads as row-at-reads
-use Rattle.ranges.proofs.settle.Reads as settle-reads
-use Rattle.ranges.proofs.up.Reads as up-reads
 
 abbrev Inv-loop : tie.InvT-loop
 Inv-loop a n b m out₀ most lo hi w₀ z₀ out w z = (length out ≡ length out₀) × Walk a n (gaps 4294967295 (rowAt b) m lo) (hi - lo) most out (w .i) (w .j) (w .k) (z .u) (z .v) (z .t)

@@ -2,13 +2,6 @@ use Rattle.tables.proofs.Meeting.{step-above}
 use borrow.Author.Needs.{needs}
 use Rattle.ranges.proofs.down.Statement.{statement}
 use Rattle.ranges.proofs.down.Tie as tie
-use Rattle.ranges.proofs.down.Reads as reads
-use Rattle.ranges.proofs.down.Lts as lts
-use Rattle.ranges.proofs.dropped.Reads as dropped-reads
-use Rattle.ranges.proofs.higher.Reads as higher-reads
-use Rattle.ranges.proofs.lay.Reads as lay-reads
-use Rattle.ranges.proofs.lower.Reads as lower-reads
-use Rattle.ranges.proofs.raised.Reads as raised-reads
 
 higher-requires : tie.Need-higher-requires
 higher-requires c κs = search needs

@@ -5,9 +5,6 @@ use Rattle.ranges.specs.Inner.{rowAt}
 use borrow.Author.Needs.{needs}
 use Rattle.ranges.proofs.end_or.Statement.{statement}
 use Rattle.ranges.proofs.end_or.Tie as tie
-use Rattle.ranges.proofs.end_or.Reads as reads
-use Rattle.ranges.proofs.end_or.Lts as lts
-use Rattle.ranges.proofs.end_at.Reads as end-at-reads
 
 returns : tie.Need-returns
 returns c = search needs

@@ -8,10 +8,6 @@ use Rattle.ranges.proofs.Editing.{ruled-plain}
 use Rattle.ranges.proofs.Quarters.{parted-quarter}
 use Rattle.ranges.proofs.ends_below.Statement.{statement}
 use Rattle.ranges.proofs.ends_below.Tie as tie
-use Rattle.ranges.proofs.ends_below.Reads as reads
-use Rattle.ranges.proofs.ends_below.Lts as lts
-use Rattle.ranges.proofs.advance.Reads as advance-reads
-use Rattle.ranges.proofs.end_at.Reads as end-at-reads
 
 abbrev Inv-loop : tie.InvT-loop
 Inv-loop t n x lo₀ len₀ lo len = Parted (ends (rowAt t)) n x lo (lo + len)

@@ -5,10 +5,6 @@ use Rattle.ranges.proofs.Asking.{refused, told, found-at, found-none}
 use borrow.Author.Needs.{needs}
 use Rattle.ranges.proofs.find_start.Statement.{statement}
 use Rattle.ranges.proofs.find_start.Tie as tie
-use Rattle.ranges.proofs.find_start.Reads as reads
-use Rattle.ranges.proofs.find_start.Lts as lts
-use Rattle.ranges.proofs.ends_below.Reads as ends-below-reads
-use Rattle.ranges.proofs.well_formed.Reads as well-formed-reads
 
 well-formed-requires : tie.Need-well-formed-requires
 well-formed-requires c κs = search needs

@@ -5,10 +5,6 @@ use native.Mathlib.Omega.{arith}
 use borrow.Author.Needs.{needs}
 use Rattle.ranges.proofs.finish.Statement.{statement}
 use Rattle.ranges.proofs.finish.Tie as tie
-use Rattle.ranges.proofs.finish.Reads as reads
-use Rattle.ranges.proofs.finish.Lts as lts
-use Rattle.ranges.proofs.room.Reads as room-reads
-use Rattle.tables.proofs.zero.Reads as zero-reads
 
 room-requires : tie.Need-room-requires
 room-requires c κs = search needs

@@ -6,14 +6,6 @@ use Rattle.ranges.proofs.Growing.{Grown, grown-none, grown-more, grown-
 use borrow.Author.Needs.{needs}
 use Rattle.ranges.proofs.from_ranges.Statement.{statement}
 use Rattle.ranges.proofs.from_ranges.Tie as tie
-use Rattle.ranges.proofs.from_ranges.Reads as reads
-use Rattle.ranges.proofs.from_ranges.Lts as lts
-use Rattle.ranges.proofs.end_at.Reads as end-at-reads
-use Rattle.ranges.proofs.finish.Reads as finish-reads
-use Rattle.ranges.proofs.grow.Reads as grow-reads
-use Rattle.ranges.proofs.room.Reads as room-reads
-use Rattle.ranges.proofs.start_at.Reads as start-at-reads
-use Rattle.tables.proofs.zero.Reads as zero-reads
 
 abbrev Inv-loop : tie.InvT-loop
 Inv-loop l n out₀ most k₀ i₀ out k i = ((i ≤ n) × (n ≤ length l / 2)) × Grown l i (length out₀) out k

@@ -8,11 +8,6 @@ use mathlib.Core.Path.{ap₂}
 use borrow.Author.Needs.{needs}
 use Rattle.ranges.proofs.get.Statement.{statement}
 use Rattle.ranges.proofs.get.Tie as tie
-use Rattle.ranges.proofs.get.Reads as reads
-use Rattle.ranges.proofs.get.Lts as lts
-use Rattle.ranges.proofs.end_at.Reads as end-at-reads
-use Rattle.ranges.proofs.start_at.Reads as start-at-reads
-use Rattle.ranges.proofs.well_formed.Reads as well-formed-reads
 
 well-formed-requires : tie.Need-well-formed-requires
 well-formed-requires c κs = search needs

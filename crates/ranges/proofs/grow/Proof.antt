@@ -6,16 +6,6 @@ use Rattle.ranges.proofs.Growing.{grown-same, grown-over, grown-rows}
 use borrow.Author.Needs.{needs}
 use Rattle.ranges.proofs.grow.Statement.{statement}
 use Rattle.ranges.proofs.grow.Tie as tie
-use Rattle.ranges.proofs.grow.Reads as reads
-use Rattle.ranges.proofs.grow.Lts as lts
-use Rattle.ranges.proofs.end_or.Reads as end-or-reads
-use Rattle.ranges.proofs.higher.Reads as higher-reads
-use Rattle.ranges.proofs.lower.Reads as lower-reads
-use Rattle.ranges.proofs.room.Reads as room-reads
-use Rattle.ranges.proofs.shift.Reads as shift-reads
-use Rattle.ranges.proofs.start_or.Reads as start-or-reads
-use Rattle.ranges.proofs.starts_below.Reads as starts-below-reads
-use Rattle.ranges.proofs.tail_below.Reads as tail-below-reads
 
 returns : tie.Need-returns
 returns c = grown-same (c .before .before .pre) (c .before .before .args .s) (c .before .before .args .e) (omega arith)

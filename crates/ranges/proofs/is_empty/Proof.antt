@@ -4,9 +4,6 @@ use Rattle.ranges.proofs.Asking.{refused, told, empty-yes, empty-no}
 use borrow.Author.Needs.{needs}
 use Rattle.ranges.proofs.is_empty.Statement.{statement}
 use Rattle.ranges.proofs.is_empty.Tie as tie
-use Rattle.ranges.proofs.is_empty.Reads as reads
-use Rattle.ranges.proofs.is_empty.Lts as lts
-use Rattle.ranges.proofs.well_formed.Reads as well-formed-reads
 
 well-formed-requires : tie.Need-well-formed-requires
 well-formed-requires c κs = search needs

@@ -3,12 +3,6 @@ use Rattle.tables.proofs.Uniting.{adds, counted-some}
 use borrow.Author.Needs.{needs}
 use Rattle.ranges.proofs.join.Statement.{statement}
 use Rattle.ranges.proofs.join.Tie as tie
-use Rattle.ranges.proofs.join.Reads as reads
-use Rattle.ranges.proofs.join.Lts as lts
-use Rattle.ranges.proofs.counted.Reads as counted-reads
-use Rattle.ranges.proofs.further.Reads as further-reads
-use Rattle.ranges.proofs.store_end.Reads as store-end-reads
-use Rattle.ranges.proofs.store_start.Reads as store-start-reads
 
 store-start-requires : tie.Need-store-start-requires
 store-start-requires c κs = search needs

@@ -4,9 +4,6 @@ use Rattle.tables.proofs.Meeting.{stores-keeps, stores-above}
 use borrow.Author.Needs.{needs}
 use Rattle.ranges.proofs.keep.Statement.{statement}
 use Rattle.ranges.proofs.keep.Tie as tie
-use Rattle.ranges.proofs.keep.Reads as reads
-use Rattle.ranges.proofs.keep.Lts as lts
-use Rattle.ranges.proofs.lay.Reads as lay-reads
 
 lay-requires : tie.Need-lay-requires
 lay-requires c κs = search needs

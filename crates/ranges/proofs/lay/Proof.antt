@@ -6,8 +6,6 @@ use Rattle.ranges.proofs.Moving.{stored-other}
 use borrow.Author.Needs.{needs}
 use Rattle.ranges.proofs.lay.Statement.{statement}
 use Rattle.ranges.proofs.lay.Tie as tie
-use Rattle.ranges.proofs.lay.Reads as reads
-use Rattle.ranges.proofs.lay.Lts as lts
 
 mul-out : tie.Need-mul-out
 mul-out c = search needs

@@ -5,9 +5,6 @@ use Rattle.ranges.proofs.Flat.{length-rows}
 use borrow.Author.Needs.{needs}
 use Rattle.ranges.proofs.len.Statement.{statement}
 use Rattle.ranges.proofs.len.Tie as tie
-use Rattle.ranges.proofs.len.Reads as reads
-use Rattle.ranges.proofs.len.Lts as lts
-use Rattle.ranges.proofs.well_formed.Reads as well-formed-reads
 
 well-formed-requires : tie.Need-well-formed-requires
 well-formed-requires c κs = search needs

@@ -5,13 +5,6 @@ use borrow.Author.Tests.{not-true, not-false}
 use borrow.Author.Needs.{needs}
 use Rattle.ranges.proofs.merge.Statement.{statement}
 use Rattle.ranges.proofs.merge.Tie as tie
-use Rattle.ranges.proofs.merge.Reads as reads
-use Rattle.ranges.proofs.merge.Lts as lts
-use Rattle.ranges.proofs.both.Reads as both-reads
-use Rattle.ranges.proofs.finish.Reads as finish-reads
-use Rattle.ranges.proofs.room.Reads as room-reads
-use Rattle.ranges.proofs.unite.Reads as unite-reads
-use Rattle.tables.proofs.zero.Reads as zero-reads
 
 both-requires : tie.Need-both-requires
 both-requires c κs = search needs

@@ -4,8 +4,6 @@ use native.Mathlib.Omega.{arith}
 use borrow.Author.Needs.{needs}
 use Rattle.ranges.proofs.move_down.Statement.{statement}
 use Rattle.ranges.proofs.move_down.Tie as tie
-use Rattle.ranges.proofs.move_down.Reads as reads
-use Rattle.ranges.proofs.move_down.Lts as lts
 
 abbrev Inv-loop : tie.InvT-loop
 Inv-loop out₀ j k c from to len x₀ out x = Lowered out₀ (2 * j) (2 * c) x out × (x ≤ 2 * (k - j))

@@ -1,14 +1,13 @@
-use Rattle.ranges.proofs.Moving.{Raised, raised-none, raised-more, raised-rows}
+use Rattle.tables.proofs.Copying.{Raised, raised-none, raised-more}
+use Rattle.ranges.proofs.Moving.{raised-rows}
 use Prim.Native.Nat.{_*_, _≤_}
 use native.Mathlib.Omega.{arith}
 use borrow.Author.Needs.{needs}
 use Rattle.ranges.proofs.move_up.Statement.{statement}
 use Rattle.ranges.proofs.move_up.Tie as tie
-use Rattle.ranges.proofs.move_up.Reads as reads
-use Rattle.ranges.proofs.move_up.Lts as lts
 
 abbrev Inv-loop : tie.InvT-loop
-Inv-loop part₀ k w₀ part w = Raised part₀ w (2 * k) part × (w ≤ 2 * k)
+Inv-loop part₀ k w₀ part w = Raised 2 part₀ w (2 * k) part × (w ≤ 2 * k)
 
 abbrev μ-loop : tie.MeasureT-loop
 μ-loop part₀ k w₀ part w = w

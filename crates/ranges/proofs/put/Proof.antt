@@ -5,8 +5,6 @@ use native.Mathlib.Omega.{arith}
 use borrow.Author.Needs.{needs}
 use Rattle.ranges.proofs.put.Statement.{statement}
 use Rattle.ranges.proofs.put.Tie as tie
-use Rattle.ranges.proofs.put.Reads as reads
-use Rattle.ranges.proofs.put.Lts as lts
 
 returns : tie.Need-returns
 returns c = stands-none (c .before .before .args .out .now) (c .before .before .args .k) (c .before .before .args .p .start) (c .before .before .args .p .end) (omega arith)

@@ -9,15 +9,6 @@ use Rattle.ranges.proofs.Flat.{table-ruled}
 use borrow.Author.Needs.{needs}
 use Rattle.ranges.proofs.remove.Statement.{statement}
 use Rattle.ranges.proofs.remove.Tie as tie
-use Rattle.ranges.proofs.remove.Reads as reads
-use Rattle.ranges.proofs.remove.Lts as lts
-use Rattle.ranges.proofs.end_or.Reads as end-or-reads
-use Rattle.ranges.proofs.ends_below.Reads as ends-below-reads
-use Rattle.ranges.proofs.splice.Reads as splice-reads
-use Rattle.ranges.proofs.start_or.Reads as start-or-reads
-use Rattle.ranges.proofs.starts_below.Reads as starts-below-reads
-use Rattle.ranges.proofs.well_formed.Reads as well-formed-reads
-use Rattle.tables.proofs.zero.Reads as zero-reads
 
 well-formed-requires : tie.Need-well-formed-requires
 well-formed-requires c κs = search needs

@@ -9,12 +9,6 @@ use Prim.Native.Nat.{_-_}
 use borrow.Author.Needs.{needs}
 use Rattle.ranges.proofs.rest.Statement.{statement}
 use Rattle.ranges.proofs.rest.Tie as tie
-use Rattle.ranges.proofs.rest.Reads as reads
-use Rattle.ranges.proofs.rest.Lts as lts
-use Rattle.ranges.proofs.end_at.Reads as end-at-reads
-use Rattle.ranges.proofs.further.Reads as further-reads
-use Rattle.ranges.proofs.join.Reads as join-reads
-use Rattle.ranges.proofs.start_at.Reads as start-at-reads
 
 abbrev Inv-loop : tie.InvT-loop
 Inv-loop a n i0 b m out₀ most k0 e0 i₀ k₀ e₀ out i k e = (length out ≡ length out₀) × United 4294967296 (rowAt a) n i (rowAt b) m m most (rowAt out) k e

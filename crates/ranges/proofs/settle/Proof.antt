@@ -3,9 +3,6 @@ use Rattle.tables.proofs.Meeting.{halves-over, halves-moved}
 use borrow.Author.Needs.{needs}
 use Rattle.ranges.proofs.settle.Statement.{statement}
 use Rattle.ranges.proofs.settle.Tie as tie
-use Rattle.ranges.proofs.settle.Reads as reads
-use Rattle.ranges.proofs.settle.Lts as lts
-use Rattle.ranges.proofs.move_down.Reads as move-down-reads
 
 sub-r : tie.Need-sub-r
 sub-r c = search needs

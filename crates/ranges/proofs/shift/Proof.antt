@@ -4,10 +4,6 @@ use Rattle.ranges.proofs.Parts.{moved-part, moved-none}
 use borrow.Author.Needs.{needs}
 use Rattle.ranges.proofs.shift.Statement.{statement}
 use Rattle.ranges.proofs.shift.Tie as tie
-use Rattle.ranges.proofs.shift.Reads as reads
-use Rattle.ranges.proofs.shift.Lts as lts
-use Rattle.ranges.proofs.move_down.Reads as move-down-reads
-use Rattle.ranges.proofs.move_up.Reads as move-up-reads
 
 mul-move-up : tie.Need-mul-move-up
 mul-move-up c = search needs

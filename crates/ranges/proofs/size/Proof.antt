@@ -3,8 +3,6 @@ use mathlib.Core.Path.{sym}
 use native.Mathlib.Omega.{arith}
 use Rattle.ranges.proofs.size.Statement.{statement}
 use Rattle.ranges.proofs.size.Tie as tie
-use Rattle.ranges.proofs.size.Reads as reads
-use Rattle.ranges.proofs.size.Lts as lts
 
 returns : tie.Need-returns
 returns c = sym (size-one _ _ (omega arith))

@@ -7,13 +7,6 @@ use native.Mathlib.Omega.{arith}
 use borrow.Author.Needs.{needs}
 use Rattle.ranges.proofs.splice.Statement.{statement}
 use Rattle.ranges.proofs.splice.Tie as tie
-use Rattle.ranges.proofs.splice.Reads as reads
-use Rattle.ranges.proofs.splice.Lts as lts
-use Rattle.ranges.proofs.copy.Reads as copy-reads
-use Rattle.ranges.proofs.finish.Reads as finish-reads
-use Rattle.ranges.proofs.put.Reads as put-reads
-use Rattle.ranges.proofs.room.Reads as room-reads
-use Rattle.ranges.proofs.size.Reads as size-reads
 
 size-requires : tie.Need-size-requires
 size-requires c κs = search needs

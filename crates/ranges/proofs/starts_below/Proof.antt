@@ -7,10 +7,6 @@ use Rattle.ranges.proofs.Editing.{ruled-plain}
 use borrow.Author.Needs.{needs}
 use Rattle.ranges.proofs.starts_below.Statement.{statement}
 use Rattle.ranges.proofs.starts_below.Tie as tie
-use Rattle.ranges.proofs.starts_below.Reads as reads
-use Rattle.ranges.proofs.starts_below.Lts as lts
-use Rattle.ranges.proofs.advance.Reads as advance-reads
-use Rattle.ranges.proofs.start_at.Reads as start-at-reads
 
 abbrev Inv-loop : tie.InvT-loop
 Inv-loop t n i x lo₀ len₀ lo len = Parted (starts (rowAt t)) n x lo (lo + len) × (i ≤ lo)

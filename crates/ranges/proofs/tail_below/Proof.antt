@@ -4,10 +4,6 @@ use native.Mathlib.Omega.{arith}
 use borrow.Author.Needs.{needs}
 use Rattle.ranges.proofs.tail_below.Statement.{statement}
 use Rattle.ranges.proofs.tail_below.Tie as tie
-use Rattle.ranges.proofs.tail_below.Reads as reads
-use Rattle.ranges.proofs.tail_below.Lts as lts
-use Rattle.ranges.proofs.end_at.Reads as end-at-reads
-use Rattle.ranges.proofs.ends_below.Reads as ends-below-reads
 
 ends-below-requires : tie.Need-ends-below-requires
 ends-below-requires c κs = c .before .before .pre

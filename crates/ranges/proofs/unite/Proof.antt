@@ -1,4 +1,4 @@
-use Prim.Native.Nat.{ℕ, _-_, _+_, _<_}
+use Prim.Native.Nat.{ℕ, _-_, _+_}
 use mathlib.Core.Path.{_≡_, _∙_, refl}
 use native.Mathlib.Omega.{arith}
 use lib.ListN.{length}
@@ -13,18 +13,6 @@ use Rattle.ranges.proofs.Flat.{ruled-links}
 use Rattle.ranges.proofs.Keeping.{onward-passed, picked-both}
 use Rattle.ranges.proofs.unite.Statement.{statement}
 use Rattle.ranges.proofs.unite.Tie as tie
-use Rattle.ranges.proofs.unite.Reads as reads
-use Rattle.ranges.proofs.unite.Lts as lts
-use Rattle.ranges.proofs.end_at.Reads as end-at-reads
-use Rattle.ranges.proofs.first.Reads as first-reads
-use Rattle.ranges.proofs.further.Reads as further-reads
-use Rattle.ranges.proofs.waited.Reads as waited-reads
-use Rattle.ranges.proofs.join.Reads as join-reads
-use Rattle.ranges.proofs.lower.Reads as lower-reads
-use Rattle.ranges.proofs.onward.Reads as onward-reads
-use Rattle.ranges.proofs.passed.Reads as passed-reads
-use Rattle.ranges.proofs.start_or.Reads as start-or-reads
-use Rattle.ranges.proofs.rest.Reads as rest-reads
 
 abbrev Inv-loop : tie.InvT-loop
 Inv-loop a n b m out₀ most i₀ j₀ k₀ e₀ p₀ q₀ out i j k e p q = (length out ≡ length out₀) × United 4294967296 (rowAt a) n i (rowAt b) m j most (rowAt out) k e × Starting (rowAt a) n i 0 p × Starting (rowAt b) m j 0 q

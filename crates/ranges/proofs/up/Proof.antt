@@ -2,12 +2,6 @@ use Rattle.tables.proofs.Meeting.{step-below}
 use borrow.Author.Needs.{needs}
 use Rattle.ranges.proofs.up.Statement.{statement}
 use Rattle.ranges.proofs.up.Tie as tie
-use Rattle.ranges.proofs.up.Reads as reads
-use Rattle.ranges.proofs.up.Lts as lts
-use Rattle.ranges.proofs.higher.Reads as higher-reads
-use Rattle.ranges.proofs.keep.Reads as keep-reads
-use Rattle.ranges.proofs.lower.Reads as lower-reads
-use Rattle.ranges.proofs.passed.Reads as passed-reads
 
 higher-requires : tie.Need-higher-requires
 higher-requires c κs = search needs

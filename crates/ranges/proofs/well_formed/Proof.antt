@@ -5,8 +5,6 @@ use Rattle.tables.proofs.Climbing.{Rose, rose-none, rose-more, rose-all}
 use Rattle.ranges.proofs.Looking.{says-ruled}
 use Rattle.ranges.proofs.well_formed.Statement.{statement}
 use Rattle.ranges.proofs.well_formed.Tie as tie
-use Rattle.ranges.proofs.well_formed.Reads as reads
-use Rattle.ranges.proofs.well_formed.Lts as lts
 
 abbrev Inv-loop : tie.InvT-loop
 Inv-loop a n e ok₀ i₀ ok i = Rose a (2 * n) i ok

@@ -9,8 +9,6 @@ use borrow.Author.Needs.{needs}
 use native.Mathlib.Omega.{arith}
 use Rattle.tables.proofs.zero_wide.Statement.{statement}
 use Rattle.tables.proofs.zero_wide.Tie as tie
-use Rattle.tables.proofs.zero_wide.Reads as reads
-use Rattle.tables.proofs.zero_wide.Lts as lts
 
 abbrev Inv-loop : tie.InvT-loop
 Inv-loop s₀ i₀ s i = (i ≤ length s₀) × (length s ≡ length s₀) × (s ≡ replicate i 0 ++ drop i s₀)

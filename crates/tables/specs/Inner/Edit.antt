@@ -1,7 +1,7 @@
 -- What the private functions of an insert and a remove say: a place found by halving, and the rows that stay.
 use mathlib.Core.Path.{_≡_}
-use mathlib.Core.List.{List, [], _∷_}
-use mathlib.Core.Bool.{Bool, true, false, cond}
+use mathlib.Core.List.{[], _∷_}
+use mathlib.Core.Bool.{cond}
 use Prim.Native.Nat.{ℕ, suc, _+_, _≤_, _<_}
 use lib.Dec.{ltb}
 use lib.ListN.{length}

@@ -2,8 +2,8 @@
 -- A weight is a number from 1: a unit row has weight 1, and a row with the reason code c has weight c + 1. Weight 0 says: not in the table.
 use mathlib.Core.Path.{_≡_}
 use mathlib.Core.List.{List, [], _∷_}
-use mathlib.Core.Bool.{Bool, true, false, cond, _&&_}
-use Prim.Native.Nat.{ℕ, zero, suc, _+_, _-_, _≤_, _<_, max}
+use mathlib.Core.Bool.{cond, _&&_}
+use Prim.Native.Nat.{ℕ, zero, suc, _-_, _≤_, _<_, max}
 use lib.Dec.{leb, ltb, eqb}
 
 pub record Row : Type 0 where
