@@ -7,7 +7,7 @@ use Prim.Native.Nat.{ℕ, _≤_, _<_}
 use native.Mathlib.Omega.{arith}
 use lib.Dec.{leb}
 use lib.ListN.{length, length-map}
-use borrow.Author.Tests.{leb-true, leb-false}
+use borrow.Author.Tests.{leb-true, leb-false, not-true, not-false}
 use borrow.Author.Needs.{needs}
 use Rattle.varint.specs.declared.Refusal.the-variants.{Full, Malformed}
 use Rattle.tables.specs.Answers.{answer, padded, done, full, malformed, Says}
@@ -39,30 +39,31 @@ filled-alike t a =
     }
 
 -- the rows that stay: none, if there is no room for them or the tables were malformed
-module _ (ok : Bool) (room k kept : ℕ) (p : Picked (ok && leb k room) k 0 kept) where
-  pub kept-most : kept ≤ room
-  kept-most = go ok (leb k room) refl p
-    where
-      go : (b t : Bool) → leb k room ≡ t → Picked (b && t) k 0 kept → kept ≤ room
-      go true true e q = omega (arith, q .yes′ refl, leb-true k room e)
-      go true false e q = omega (arith, q .no′ refl)
-      go false t e q = omega (arith, q .no′ refl)
+pub kept-most : (ok : Bool) (room k kept most : ℕ) → Picked (ok && leb k room) k 0 kept → room ≤ most → kept ≤ most
+kept-most ok room k kept most p h = go ok (leb k room) refl p
+  where
+    go : (b t : Bool) → leb k room ≡ t → Picked (b && t) k 0 kept → kept ≤ most
+    go true true e q = omega (arith, q .yes′ refl, leb-true k room e)
+    go true false e q = omega (arith, q .no′ refl)
+    go false t e q = omega (arith, q .no′ refl)
 
-  module _ (o o′ : Slices) (t : o′ ≡ filled (rowsOf kept (o .clients) (o .starts) (o .ends)) o) where
-    stays : (v : ℕ) → kept ≡ v → o′ ≡ filled (rowsOf v (o .clients) (o .starts) (o .ends)) o
-    stays v e = t ∙ ap (λ (v : ℕ). filled (rowsOf v (o .clients) (o .starts) (o .ends)) o) e
+module _ (ok : Bool) (room k kept : ℕ) (o o′ : Slices) (p : Picked (ok && leb k room) k 0 kept) (t : o′ ≡ filled (rowsOf kept (o .clients) (o .starts) (o .ends)) o) where
+  stays : (v : ℕ) → kept ≡ v → o′ ≡ filled (rowsOf v (o .clients) (o .starts) (o .ends)) o
+  stays v e = t ∙ ap (λ (v : ℕ). filled (rowsOf v (o .clients) (o .starts) (o .ends)) o) e
 
-    pub finished-malformed : ok ≡ false → Finished ok room k o o′ (made.Refused Malformed)
-    finished-malformed e =
-        record { done = λ d. absurd (true≢false (sym d ∙ e)); full = λ d. absurd (true≢false (sym d ∙ e)); malformed = λ _. (refl, stays 0 (p .no′ (ap (λ (b : Bool). b && leb k room) e))) }
+  pub finished-malformed : ok ≡ false → Finished ok room k o o′ (made.Refused Malformed)
+  finished-malformed e =
+      record { done = λ d. absurd (true≢false (sym d ∙ e)); full = λ d. absurd (true≢false (sym d ∙ e)); malformed = λ _. (refl, stays 0 (p .no′ (ap (λ (b : Bool). b && leb k room) e))) }
 
-    pub finished-done : ok ≡ true → leb k room ≡ true → Finished ok room k o o′ (made.Rows k)
-    finished-done e l =
-        record { done = λ _ _. (refl, stays k (p .yes′ (ap₂ _&&_ e l))); full = λ _ h. absurd (omega (arith, leb-true k room l)); malformed = λ d. absurd (true≢false (sym e ∙ d)) }
+  pub finished-done : ok ≡ true → leb k room ≡ true → Finished ok room k o o′ (made.Rows k)
+  finished-done e l =
+      record { done = λ _ _. (refl, stays k (p .yes′ (ap₂ _&&_ e l))); full = λ _ h. absurd (omega (arith, leb-true k room l)); malformed = λ d. absurd (true≢false (sym e ∙ d)) }
 
-    pub finished-full : ok ≡ true → leb k room ≡ false → Finished ok room k o o′ (made.Refused Full)
-    finished-full e l =
-        record { done = λ _ h. absurd (omega (arith, leb-false k room l)); full = λ _ _. (refl, stays 0 (p .no′ (ap₂ _&&_ e l))); malformed = λ d. absurd (true≢false (sym e ∙ d)) }
+  pub finished-full : ok ≡ true → leb k room ≡ false → Finished ok room k o o′ (made.Refused Full)
+  finished-full e l =
+      record { done = λ _ h. absurd (omega (arith, leb-false k room l)); full = λ _ _. (refl, stays 0 (p .no′ (ap₂ _&&_ e l))); malformed = λ d. absurd (true≢false (sym e ∙ d)) }
+
+pub ruleset finishing = (finished-malformed, finished-done, finished-full, not-true, not-false)
 
 -- the rows that are walked: none, if the tables were malformed
 table-or-none : {cs ss es : List ℕ} {n n′ : ℕ} (ok : Bool) → (ok ≡ true → IdTable cs ss es n) → Picked ok n 0 n′ → IdTable cs ss es n′
