@@ -1,7 +1,7 @@
 -- Malformed, full or copied. Assumes nothing.
 use native.Mathlib.Omega.{arith}
 use Rattle.ids.specs.Tables.{three}
-use Rattle.ids.proofs.Answering.{table-or-none, captured-of}
+use Rattle.ids.proofs.Answering.{checked-walked, captured-of}
 use borrow.Author.Needs.{needs}
 use Rattle.ids.proofs.capture.Statement.{statement}
 use Rattle.ids.proofs.capture.Tie as tie
@@ -16,7 +16,10 @@ most-rows-requires : tie.Need-most-rows-requires
 most-rows-requires c κs = search needs
 
 copy-rows-requires : tie.Need-copy-rows-requires
-copy-rows-requires c κs = let t = table-or-none _ (c .before .before .before .before .before .well-formed .ensures .table) (c .before .before .before .before .pick-place .ensures) in (omega (arith, t .few), omega (arith, c .before .before .before .most-rows .ensures))
+copy-rows-requires c κs =
+    let p : tie.After-pick-place = search in
+    let t = checked-walked (p .before .well-formed .ensures) (p .pick-place .ensures) in
+    (omega (arith, t .few), search needs)
 
 finish-requires : tie.Need-finish-requires
 finish-requires c κs = search needs
@@ -30,10 +33,18 @@ same-length-2 c = search needs
 same-length-3 : tie.Need-same-length-3
 same-length-3 c = search needs
 
+abbrev start : tie.After-shared-slice-known3 → tie.Start
+start c = search
+
 returns : tie.Need-returns
-returns c = let a = c .before .before .before .before .before .before .before .before .before .before .before .before .before .before .before .before .before .before .before .before .before .before .before .before .before .before .before .before .before .args in let l = c .before .before .before .before .before .before .before .before .before .before .before .before .before .before .before .before .copy-rows .kept .1 .1 .1 .1 in
-    captured-of (a .clients .now) (a .starts .now) (a .ends .now) (c .before .before .before .before .before .before .before .before .before .before .before .before .before .before .before .before .before .before .before .before .before .before .before .before .before .before .before .shared-slice-known2 .given) (c .before .before .before .before .before .before .before .before .before .before .before .before .before .before .before .before .before .before .before .before .before .before .before .before .before .before .shared-slice-known3 .given) (a .count) (three (a .to-clients .now) (a .to-starts .now) (a .to-ends .now)) _ _ _
-    (c .before .before .before .before .before .before .before .before .before .before .before .before .before .before .before .before .before .before .before .before .before .before .well-formed .ensures) (c .before .before .before .before .before .before .before .before .before .before .before .before .before .before .before .before .before .before .before .before .before .pick-place .ensures) (c .before .before .before .before .before .before .before .before .before .before .before .before .slice-known5 .given) (c .before .before .before .before .before .before .before .before .before .before .slice-known6 .given) (record { one = l .0; two = l .1 .0; three′ = l .1 .1 .0 }) (c .before .before .before .before .before .before .before .before .before .before .before .before .before .before .before .before .before .before .before .before .most-rows .ensures) (c .before .before .before .before .before .before .before .before .before .before .before .before .before .before .before .before .copy-rows .ensures) (c .before .before .before .before .before .before .finish .ensures)
+returns c =
+    let f : tie.After-finish = search in
+    let w : tie.After-slice-known6 = search in
+    let u : tie.After-copy-rows = search in
+    let m : tie.After-most-rows = search in
+    let k : tie.After-shared-slice-known3 = search in
+    let a = start k .args in
+    captured-of {o = three (a .to-clients .now) (a .to-starts .now) (a .to-ends .now)} (f .finish .ensures) (u .copy-rows .ensures) (m .most-rows .ensures) (omega (arith, u .copy-rows .kept)) (search)
 
 pub capture-spec : {M : Type 1} → statement M
 capture-spec =

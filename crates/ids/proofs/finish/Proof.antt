@@ -1,6 +1,5 @@
 use native.Mathlib.Omega.{arith}
-use borrow.Author.Tests.{not-true, not-false}
-use Rattle.ids.proofs.Answering.{kept-most, finished-malformed, finished-done, finished-full}
+use Rattle.ids.proofs.Answering.{kept-most, finishing}
 use borrow.Author.Needs.{needs}
 use Rattle.ids.proofs.finish.Statement.{statement}
 use Rattle.ids.proofs.finish.Tie as tie
@@ -9,7 +8,7 @@ pick-place-requires : tie.Need-pick-place-requires
 pick-place-requires c κs = search needs
 
 trim-requires : tie.Need-trim-requires
-trim-requires c κs = omega (arith, kept-most (c .before .before .before .before .before .before .before .args .ok) (c .before .before .before .before .before .before .before .args .most) (c .before .before .before .before .before .before .before .args .k) _ (c .before .before .before .pick-place .ensures))
+trim-requires c κs = search kept-most
 
 same-length : tie.Need-same-length
 same-length c = search needs
@@ -21,7 +20,7 @@ same-length-3 : tie.Need-same-length-3
 same-length-3 c = search needs
 
 returns : tie.Need-returns
-returns c = finished-malformed (c .before .before .before .before .before .before .before .before .before .before .before .before .before .before .before .args .ok) (c .before .before .before .before .before .before .before .before .before .before .before .before .before .before .before .args .most) (c .before .before .before .before .before .before .before .before .before .before .before .before .before .before .before .args .k) _ (c .before .before .before .before .before .before .before .before .before .before .before .pick-place .ensures) _ _ (c .before .before .before .before .before .before .before .trim .ensures) (not-true _ (c .if1 .taken))
+returns c = search finishing
 
 same-length-4 : tie.Need-same-length-4
 same-length-4 c = search needs
@@ -33,7 +32,7 @@ same-length-6 : tie.Need-same-length-6
 same-length-6 c = search needs
 
 returns-2 : tie.Need-returns-2
-returns-2 c = finished-done (c .before .before .before .before .before .before .before .before .before .before .before .before .before .before .before .before .args .ok) (c .before .before .before .before .before .before .before .before .before .before .before .before .before .before .before .before .args .most) (c .before .before .before .before .before .before .before .before .before .before .before .before .before .before .before .before .args .k) _ (c .before .before .before .before .before .before .before .before .before .before .before .before .pick-place .ensures) _ _ (c .before .before .before .before .before .before .before .before .trim .ensures) (not-false _ (c .before .if1 .left)) (c .if2 .taken)
+returns-2 c = search finishing
 
 same-length-7 : tie.Need-same-length-7
 same-length-7 c = search needs
@@ -45,7 +44,7 @@ same-length-9 : tie.Need-same-length-9
 same-length-9 c = search needs
 
 returns-3 : tie.Need-returns-3
-returns-3 c = finished-full (c .before .before .before .before .before .before .before .before .before .before .before .before .before .before .before .before .args .ok) (c .before .before .before .before .before .before .before .before .before .before .before .before .before .before .before .before .args .most) (c .before .before .before .before .before .before .before .before .before .before .before .before .before .before .before .before .args .k) _ (c .before .before .before .before .before .before .before .before .before .before .before .before .pick-place .ensures) _ _ (c .before .before .before .before .before .before .before .before .trim .ensures) (not-false _ (c .before .if1 .left)) (c .if2 .left)
+returns-3 c = search finishing
 
 pub finish-spec : {M : Type 1} → statement M
 finish-spec =

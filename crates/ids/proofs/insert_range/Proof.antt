@@ -5,7 +5,7 @@ use mathlib.Core.List.{[], _∷_}
 use Rattle.tables.proofs.Sets.{union-means}
 use Rattle.ids.specs.Rows.{row}
 use Rattle.ids.specs.Tables.{held, three}
-use Rattle.ids.proofs.Answering.{table-or-none, made-of}
+use Rattle.ids.proofs.Answering.{walking, made-of}
 use Rattle.ids.proofs.Inserting.{captured-inserted, merged-inserted}
 use Rattle.ids.proofs.Splicing.{one-narrow, both-one}
 use borrow.Author.Needs.{needs}
@@ -25,8 +25,12 @@ same-length-3 : tie.Need-same-length-3
 same-length-3 c = search needs
 
 returns : tie.Need-returns
-returns c = let a = c .before .before .before .before .before .before .before .before .before .before .before .before .before .before .before .before .before .args in
-    captured-inserted (held (a .clients .now) (a .starts .now) (a .ends .now) (a .count)) (row (a .client .0) (a .start .0) (a .end .0)) (three (a .to-clients .now) (a .to-starts .now) (a .to-ends .now)) _ (c .before .before .before .before .before .before .capture .result) (c .before .before .before .before .before .before .before .before .before .before .if1 .taken) (c .before .before .before .before .before .before .capture .ensures)
+returns c =
+    let f : tie.After-capture = search in
+    let t : tie.Then1 = search in
+    let s : tie.Start = search in
+    let a = s .args in
+    captured-inserted _ (row (a .client .0) (a .start .0) (a .end .0)) (three (a .to-clients .now) (a .to-starts .now) (a .to-ends .now)) _ (f .capture .result) (t .if1 .taken) (f .capture .ensures)
 
 well-formed-requires : tie.Need-well-formed-requires
 well-formed-requires c κs = search needs
@@ -38,7 +42,7 @@ most-rows-requires : tie.Need-most-rows-requires
 most-rows-requires c κs = search needs
 
 put-in-requires : tie.Need-put-in-requires
-put-in-requires c κs = (table-or-none _ (c .before .before .before .before .before .well-formed .ensures .table) (c .before .before .before .before .pick-place .ensures), (c .before .before .before .before .before .before .if1 .left, omega (arith, c .before .before .before .most-rows .ensures)))
+put-in-requires c κs = (search walking, (search needs, search needs))
 
 finish-requires : tie.Need-finish-requires
 finish-requires c κs = search needs
@@ -52,14 +56,33 @@ same-length-5 c = search needs
 same-length-6 : tie.Need-same-length-6
 same-length-6 c = search needs
 
+abbrev start : tie.After-shared-slice-known3 → tie.Start
+start c = search
+
 returns-2 : tie.Need-returns-2
-returns-2 c = let a = c .before .before .before .before .before .before .before .before .before .before .before .before .before .before .before .before .before .before .before .before .before .before .before .before .before .before .before .before .before .before .args in let l = c .before .before .before .before .before .before .before .before .before .before .before .before .before .before .before .before .put-in .kept .1 .1 .1 .1 .1 .1 .1 in
-    merged-inserted (held (a .clients .now) (a .starts .now) (a .ends .now) (a .count)) (row (a .client .0) (a .start .0) (a .end .0)) (three (a .to-clients .now) (a .to-starts .now) (a .to-ends .now)) _ (c .before .before .before .before .before .before .finish .result) (c .before .before .before .before .before .before .before .before .before .before .before .before .before .before .before .before .before .before .before .before .before .before .before .if1 .left)
-    (made-of union-means (a .clients .now) (a .starts .now) (a .ends .now) (c .before .before .before .before .before .before .before .before .before .before .before .before .before .before .before .before .before .before .before .before .before .before .before .before .before .before .before .before .shared-slice-known2 .given) (c .before .before .before .before .before .before .before .before .before .before .before .before .before .before .before .before .before .before .before .before .before .before .before .before .before .before .before .shared-slice-known3 .given) (a .count)
-    (a .client .0 ∷ []) (a .start .0 ∷ []) (a .end .0 ∷ []) (one-narrow _ (omega (arith, c .before .before .before .before .before .before .before .before .before .before .before .before .before .before .before .before .before .before .before .before .before .before .before .before .before .before .before .before .before .before .good))) (one-narrow _ (omega (arith, c .before .before .before .before .before .before .before .before .before .before .before .before .before .before .before .before .before .before .before .before .before .before .before .before .before .before .before .before .before .before .good))) 1
-    (three (a .to-clients .now) (a .to-starts .now) (a .to-ends .now)) _ _ _
-    (both-one _ _ _ _ (c .before .before .before .before .before .before .before .before .before .before .before .before .before .before .before .before .before .before .before .before .before .before .before .if1 .left) (c .before .before .before .before .before .before .before .before .before .before .before .before .before .before .before .before .before .before .before .before .before .before .well-formed .ensures)) (c .before .before .before .before .before .before .before .before .before .before .before .before .before .before .before .before .before .before .before .before .before .pick-place .ensures) (λ _. refl) (c .before .before .before .before .before .before .before .before .before .before .before .before .slice-known8 .given) (c .before .before .before .before .before .before .before .before .before .before .slice-known9 .given)
-    (record { one = l .0; two = l .1 .0; three′ = l .1 .1 .0 }) (c .before .before .before .before .before .before .before .before .before .before .before .before .before .before .before .before .before .before .before .before .most-rows .ensures) (c .before .before .before .before .before .before .before .before .before .before .before .before .before .before .before .before .put-in .ensures) (c .before .before .before .before .before .before .finish .ensures))
+returns-2 c =
+    let f : tie.After-finish = search in
+    let w : tie.After-slice-known9 = search in
+    let u : tie.After-put-in = search in
+    let m : tie.After-most-rows = search in
+    let l : tie.Else1 = search in
+    let k : tie.After-shared-slice-known3 = search in
+    let s = start k in
+    let a = s .args in
+    let o = three (a .to-clients .now) (a .to-starts .now) (a .to-ends .now) in
+    merged-inserted _ (row (a .client .0) (a .start .0) (a .end .0)) o _ (f .finish .result) (l .if1 .left)
+    (made-of {o = o} union-means (f .finish .ensures) (u .put-in .ensures) (m .most-rows .ensures) (omega (arith, u .put-in .kept))
+    (record {
+      both = both-one _ _ _ _ (l .if1 .left) (search);
+      one = search;
+      two = λ _. refl;
+      starts = search;
+      ends = search;
+      b-starts = one-narrow _ (omega (arith, s .good));
+      b-ends = one-narrow _ (omega (arith, s .good));
+      to-starts = search;
+      to-ends = search;
+    }))
 
 pub insert-range-spec : {M : Type 1} → statement M
 insert-range-spec =
