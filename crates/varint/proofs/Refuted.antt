@@ -30,7 +30,7 @@ use Rattle.varint.proofs.Chaining.{refuses, Put, put, put-read, unput}
 otherwise : {A : Type 0} (said : A → ℕ) {x y : A} → (said x ≡ said y → ⊥) → x ≡ y → ⊥
 otherwise said differs e = differs (ap said e)
 
--- Readers. Of each contract `Refusing` says that a refusal is as END.
+-- Readers. `Refusing` shows of what each contract says that a refusal is as END, and that excludes the two.
 module _ {at : ℕ} {a : Answer} (g : AsOne at a) {n v p : ℕ} (e : record { no = suc n; value = v; place = p } ≡ a) where
   refusal : (v ≡ 0) × (p ≡ at)
   refusal = told g
