@@ -23,8 +23,10 @@ returns-2 c = told-yes (c .before .before .before .well-formed .ensures .says .r
     (found-holds _ _ _ (c .before .before .before .before .before .shared-slice-known2 .given) (c .before .before .before .before .shared-slice-known3 .given) _ (c .before .before .before .well-formed .ensures .table (not-false _ (c .before .before .if1 .left))) _ _ (omega arith) (c .before .search .ensures .right (c .if2 .taken)))
 
 returns-3 : tie.Need-returns-3
-returns-3 c = told-no (c .before .before .before .well-formed .ensures .says .right (not-false _ (c .before .before .if1 .left)))
-    (λ h. c .before .search .ensures .wrong (c .if2 .left) (holds-found _ _ _ (c .before .before .before .before .before .shared-slice-known2 .given) (c .before .before .before .before .shared-slice-known3 .given) _ (c .before .before .before .well-formed .ensures .table (not-false _ (c .before .before .if1 .left))) _ _ h))
+returns-3 c =
+    let at-well-formed : tie.After-well-formed = search in
+    told-no (at-well-formed .well-formed .ensures .says .right (not-false _ (c .before .before .if1 .left)))
+    (λ h. c .before .search .ensures .wrong (c .if2 .left) (holds-found _ _ _ (at-well-formed .before .before .shared-slice-known2 .given) (at-well-formed .before .shared-slice-known3 .given) _ (at-well-formed .well-formed .ensures .table (not-false _ (c .before .before .if1 .left))) _ _ h))
 
 pub contains-spec : {M : Type 1} → statement M
 contains-spec =
