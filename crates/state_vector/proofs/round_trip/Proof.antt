@@ -13,4 +13,8 @@ round-trip-spec =
     (λ c. search needs)
     (λ c. search needs)
     (λ c. search needs)
-    (λ c. comes-back (c .before .before .before .before .before .before .before .before .before .before .encode .result) (c .before .before .before .before .decode .result) (record { clients = c .before .before .before .before .before .before .before .before .before .before .before .before .before .before .before .before .shared-slice-known .given; clocks = c .before .before .before .before .before .before .before .before .before .before .before .before .before .before .before .shared-slice-known2 .given }) (c .before .before .before .before .before .before .before .before .before .before .encode .ensures) (c .before .before .before .before .decode .ensures)))
+    (λ c.
+    let at-decode : tie.After-decode = search in
+    let at-encode : tie.After-encode = search in
+    let at-known2 : tie.After-shared-slice-known2 = search in
+    comes-back (at-encode .encode .result) (at-decode .decode .result) (record { clients = at-known2 .before .shared-slice-known .given; clocks = at-known2 .shared-slice-known2 .given }) (at-encode .encode .ensures) (at-decode .decode .ensures)))
