@@ -83,7 +83,7 @@ loop-again c =
       at-keep .keep .kept .0 ∙ at-else1 .before .before .loop .inv .0,
       at-keep .keep .kept .1 .0 ∙ at-else1 .before .before .loop .inv .1,
       at-keep .keep .kept .1 .1 .0 ∙ at-else1 .before .before .loop .inv .2,
-      crossing-more _ _ _ _ _ (at-start .pre .0) _ _ _ _ (at-start .pre .1 .0) _ _ (at-else1 .before .loop-test .taken) (at-else1 .if1 .left) _ _ _ _ _ _ _ _ _ _ _ (at-share .before .before .row-at .ensures) (at-share .before .row-at2 .ensures) (at-share .share .ensures) (at-keep .keep .ensures) (at-else1 .before .before .loop .inv .3),
+      crossing-more (at-start .pre .0) (at-start .pre .1 .0) (at-else1 .before .loop-test .taken) (at-else1 .if1 .left) (at-share .before .before .row-at .ensures) (at-share .before .row-at2 .ensures) (at-share .share .ensures) (at-keep .keep .ensures) (at-else1 .before .before .loop .inv .3),
     )
 
 same-length-4 : tie.Need-same-length-4 Inv-loop μ-loop

@@ -41,7 +41,7 @@ gap-start-requires : tie.Need-gap-start-requires Inv-loop μ-loop
 gap-start-requires c κs =
     let at-known3 : tie.After-shared-slice-known3 Inv-loop μ-loop = search in
     let at-start : tie.Start Inv-loop μ-loop = search in
-    let g = gap-ahead _ _ _ _ _ (at-start .pre .0) _ _ _ _ (at-start .pre .1 .0) (at-known3 .before .before .shared-slice-known .given) (at-known3 .shared-slice-known3 .given) (c .before .loop-test .taken) (c .before .before .loop .inv .3) in (omega (arith, at-start .pre .1 .0 .few), omega (arith, at-start .pre .1 .0 .few))
+    let g = gap-ahead (at-start .pre .0) (at-start .pre .1 .0) (at-known3 .before .before .shared-slice-known .given) (at-known3 .shared-slice-known3 .given) (c .before .loop-test .taken) (c .before .before .loop .inv .3) in (omega (arith, at-start .pre .1 .0 .few), omega (arith, at-start .pre .1 .0 .few))
 
 gap-end-requires : tie.Need-gap-end-requires Inv-loop μ-loop
 gap-end-requires c κs =
@@ -53,14 +53,14 @@ share-requires c κs =
     let at-in-loop : tie.In-loop Inv-loop μ-loop = search in
     let at-known3 : tie.After-shared-slice-known3 Inv-loop μ-loop = search in
     let at-start : tie.Start Inv-loop μ-loop = search in
-    let g = gap-ahead _ _ _ _ _ (at-start .pre .0) _ _ _ _ (at-start .pre .1 .0) (at-known3 .before .before .shared-slice-known .given) (at-known3 .shared-slice-known3 .given) (at-in-loop .loop-test .taken) (at-in-loop .before .loop .inv .3) in (omega (arith, at-start .pre .0 .few, at-in-loop .loop-test .taken), omega (arith, at-start .pre .1 .0 .few))
+    let g = gap-ahead (at-start .pre .0) (at-start .pre .1 .0) (at-known3 .before .before .shared-slice-known .given) (at-known3 .shared-slice-known3 .given) (at-in-loop .loop-test .taken) (at-in-loop .before .loop .inv .3) in (omega (arith, at-start .pre .0 .few, at-in-loop .loop-test .taken), omega (arith, at-start .pre .1 .0 .few))
 
 keep-requires : tie.Need-keep-requires Inv-loop μ-loop
 keep-requires c κs =
     let at-in-loop : tie.In-loop Inv-loop μ-loop = search in
     let at-known3 : tie.After-shared-slice-known3 Inv-loop μ-loop = search in
     let at-start : tie.Start Inv-loop μ-loop = search in
-    let g = gap-ahead _ _ _ _ _ (at-start .pre .0) _ _ _ _ (at-start .pre .1 .0) (at-known3 .before .before .shared-slice-known .given) (at-known3 .shared-slice-known3 .given) (at-in-loop .loop-test .taken) (at-in-loop .before .loop .inv .3) in
+    let g = gap-ahead (at-start .pre .0) (at-start .pre .1 .0) (at-known3 .before .before .shared-slice-known .given) (at-known3 .shared-slice-known3 .given) (at-in-loop .loop-test .taken) (at-in-loop .before .loop .inv .3) in
     (omega (arith, at-in-loop .before .loop .inv .0, at-in-loop .before .loop .inv .1, at-in-loop .before .loop .inv .2, at-start .pre .1 .1), omega (arith, at-in-loop .before .loop .inv .3 .differed .few, at-start .pre .0 .few, at-start .pre .1 .0 .few, at-in-loop .loop-test .taken))
 
 loop-less : tie.Need-loop-less Inv-loop μ-loop
@@ -69,7 +69,7 @@ loop-less c =
     let at-in-loop : tie.In-loop Inv-loop μ-loop = search in
     let at-known3 : tie.After-shared-slice-known3 Inv-loop μ-loop = search in
     let at-start : tie.Start Inv-loop μ-loop = search in
-    let g = gap-ahead _ _ _ _ _ (at-start .pre .0) _ _ _ _ (at-start .pre .1 .0) (at-known3 .before .before .shared-slice-known .given) (at-known3 .shared-slice-known3 .given) (at-in-loop .loop-test .taken) (at-in-loop .before .loop .inv .3) in
+    let g = gap-ahead (at-start .pre .0) (at-start .pre .1 .0) (at-known3 .before .before .shared-slice-known .given) (at-known3 .shared-slice-known3 .given) (at-in-loop .loop-test .taken) (at-in-loop .before .loop .inv .3) in
     less-left _ _ _ _ _ _ (at-in-loop .before .loop .inv .3 .differed .one .reached .within) (omega arith) (at-in-loop .loop-test .taken) (moves _ _ _ _ _ _ _ refl (at-share .share .ensures .one) (at-share .share .ensures .two))
 
 abbrev known : tie.After-row-at Inv-loop μ-loop → tie.After-shared-slice-known5 Inv-loop μ-loop
@@ -85,11 +85,12 @@ loop-again c =
     let at-row-at : tie.After-row-at Inv-loop μ-loop = search in
     let at-known5 = known at-row-at in
     let at-known = known-first at-known5 in
-    let g = gap-ahead _ _ _ _ _ (at-known .before .pre .0) _ _ _ _ (at-known .before .pre .1 .0) (at-known .shared-slice-known .given) (at-known5 .before .before .shared-slice-known3 .given) (at-row-at .before .loop-test .taken) (at-row-at .before .before .loop .inv .3) in (
+    let g = gap-ahead (at-known .before .pre .0) (at-known .before .pre .1 .0) (at-known .shared-slice-known .given) (at-known5 .before .before .shared-slice-known3 .given) (at-row-at .before .loop-test .taken) (at-row-at .before .before .loop .inv .3) in (
       at-keep .keep .kept .0 ∙ at-row-at .before .before .loop .inv .0,
       at-keep .keep .kept .1 .0 ∙ at-row-at .before .before .loop .inv .1,
       at-keep .keep .kept .1 .1 .0 ∙ at-row-at .before .before .loop .inv .2,
-      differing-more _ _ _ _ _ (at-known .before .pre .0) _ _ _ _ (at-known .before .pre .1 .0) (at-known5 .before .shared-slice-known4 .given) (at-known5 .shared-slice-known5 .given) _ _ (at-row-at .before .loop-test .taken) g _ _ _ _ _ _ _ _ _ _ _ _ (at-row-at .row-at .ensures) (at-share .before .before .gap-start .ensures) (at-share .before .gap-end .ensures) (at-share .share .ensures) (at-keep .keep .ensures) (at-row-at .before .before .loop .inv .3),
+      differing-more (at-known .before .pre .0) (at-known .before .pre .1 .0) (at-known5 .before .shared-slice-known4 .given) (at-known5 .shared-slice-known5 .given) (at-row-at .before .loop-test .taken) g
+          (at-row-at .row-at .ensures) (at-share .before .before .gap-start .ensures) (at-share .before .gap-end .ensures) (at-share .share .ensures) (at-keep .keep .ensures) (at-row-at .before .before .loop .inv .3),
     )
 
 same-length : tie.Need-same-length Inv-loop μ-loop

@@ -45,7 +45,7 @@ join-requires c κs =
     let at-known3 : tie.After-shared-slice-known3 Inv-loop μ-loop = search in
     let at-start : tie.Start Inv-loop μ-loop = search in (
       omega (arith, at-next .before .before .loop .inv .0, at-next .before .before .loop .inv .1, at-next .before .before .loop .inv .2, at-start .pre .1 .1),
-      (at-next .before .before .loop .inv .3 .opens, later _ _ _ _ (at-known3 .before .before .shared-slice-known .given) (at-known3 .before .shared-slice-known2 .given) (at-known3 .shared-slice-known3 .given) _ (at-start .pre .0) _ _ _ (at-known6 .before .before .shared-slice-known4 .given) (at-known6 .before .shared-slice-known5 .given) (at-known6 .shared-slice-known6 .given) _ (at-start .pre .1 .0) _ _ _ _ _ _ _ _ _ (at-next .next .ensures) (at-next .before .before .loop .inv .3)),
+      (at-next .before .before .loop .inv .3 .opens, later (at-start .pre .0) (at-start .pre .1 .0) (at-next .next .ensures) (at-next .before .before .loop .inv .3)),
     )
 
 loop-less : tie.Need-loop-less Inv-loop μ-loop
@@ -63,7 +63,8 @@ loop-again c =
       at-join .join .kept .0 ∙ at-next .before .before .loop .inv .0,
       at-join .join .kept .1 .0 ∙ at-next .before .before .loop .inv .1,
       at-join .join .kept .1 .1 .0 ∙ at-next .before .before .loop .inv .2,
-      merging-more _ _ _ _ (at-known3 .before .before .shared-slice-known .given) (at-known3 .before .shared-slice-known2 .given) (at-known3 .shared-slice-known3 .given) _ (at-start .pre .0) _ _ _ (at-known6 .before .before .shared-slice-known4 .given) (at-known6 .before .shared-slice-known5 .given) (at-known6 .shared-slice-known6 .given) _ (at-start .pre .1 .0) _ _ _ _ _ _ _ _ _ _ _ _ _ (at-next .next .ensures) (at-next .before .before .loop .inv .3) (at-join .join .ensures),
+      merging-more (at-start .pre .0) (at-start .pre .1 .0) (at-known3 .before .before .shared-slice-known .given) (at-known3 .before .shared-slice-known2 .given) (at-known3 .shared-slice-known3 .given)
+          (at-known6 .before .before .shared-slice-known4 .given) (at-known6 .before .shared-slice-known5 .given) (at-known6 .shared-slice-known6 .given) (at-next .next .ensures) (at-next .before .before .loop .inv .3) (at-join .join .ensures),
     )
 
 same-length : tie.Need-same-length Inv-loop μ-loop
