@@ -28,7 +28,7 @@ count-below-requires-2 c κs =
     let at-start : tie.Start = search in
     let t = at-start .pre .0 in (
       (omega (arith, t .few), omega (arith, t .few), omega (arith, at-start .good)),
-      parted-from _ (plain _ _ _ (at-known3 .before .shared-slice-known2 .given) (at-known3 .shared-slice-known3 .given) _ t) (c .count-below .ensures .0) (omega (arith, at-start .pre .1 .0)),
+      parted-from _ (plain (at-known3 .before .shared-slice-known2 .given) (at-known3 .shared-slice-known3 .given) t) (c .count-below .ensures .0) (omega (arith, at-start .pre .1 .0)),
     )
 
 lead-requires : tie.Need-lead-requires
@@ -62,7 +62,8 @@ returns c =
     let at-known3 : tie.After-shared-slice-known3 = search in
     let at-start : tie.Start = search in
     let t = at-start .pre .0 in
-    laid-full _ _ _ (at-known3 .before .shared-slice-known2 .given) (at-known3 .shared-slice-known3 .given) _ t _ _ _ _ _ _ _ (omega (arith, at-start .good)) (omega (arith, at-start .good)) (at-start .pre .1 .0) (at-count-below2 .count-below2 .ensures .1) (at-count-below2 .before .count-below .ensures .0) (at-count-below2 .count-below2 .ensures .0) (c .before .before .lead .ensures) (c .before .trail .ensures) _ _ _ refl (c .if1 .taken)
+    laid-full (at-known3 .before .shared-slice-known2 .given) (at-known3 .shared-slice-known3 .given) t (omega (arith, at-start .good)) (omega (arith, at-start .good)) (at-start .pre .1 .0) (at-count-below2 .count-below2 .ensures .1) (at-count-below2 .before .count-below .ensures .0) (at-count-below2 .count-below2 .ensures .0) (c .before .before .lead .ensures) (c .before .trail .ensures)
+    refl (c .if1 .taken)
 
 splice-wide-requires : tie.Need-splice-wide-requires
 splice-wide-requires c κs =
@@ -102,7 +103,8 @@ returns-2 c =
     let at-known3 : tie.After-shared-slice-known3 = search in
     let at-start : tie.Start = search in
     let t = at-start .pre .0 in
-    laid-done _ _ _ (at-known3 .before .shared-slice-known2 .given) (at-known3 .shared-slice-known3 .given) _ t _ _ _ _ _ _ _ (omega (arith, at-start .good)) (omega (arith, at-start .good)) (at-start .pre .1 .0) (at-trail .before .before .count-below2 .ensures .1) (at-count-below .count-below .ensures .0) (at-trail .before .before .count-below2 .ensures .0) (at-trail .before .lead .ensures) (at-trail .trail .ensures) _ _ _ _ _ refl (at-splice-wide .before .before .if1 .left) (at-splice-wide .splice-wide .ensures) (at-splice .splice .ensures) (c .before .before .splice2 .ensures)
+    laid-done (at-known3 .before .shared-slice-known2 .given) (at-known3 .shared-slice-known3 .given) t (omega (arith, at-start .good)) (omega (arith, at-start .good)) (at-start .pre .1 .0) (at-trail .before .before .count-below2 .ensures .1) (at-count-below .count-below .ensures .0) (at-trail .before .before .count-below2 .ensures .0) (at-trail .before .lead .ensures) (at-trail .trail .ensures)
+    refl (at-splice-wide .before .before .if1 .left) (at-splice-wide .splice-wide .ensures) (at-splice .splice .ensures) (c .before .before .splice2 .ensures)
 
 pub put-in-spec : {M : Type 1} → statement M
 put-in-spec =
