@@ -61,13 +61,8 @@ cmp-rows-spec =
     (λ c κs.
     let at-loop : tie.At-loop Inv-loop μ-loop = search in
     omega (arith, at-loop .loop .inv .tb .few))
-    (λ c.
-    let at-else1 : tie.Else1 Inv-loop μ-loop = search in
-    step-less (at-else1 .before .loop-test .taken) (at-else1 .if1 .left) (c .before .before .lower .ensures) (c .before .passed .ensures) (c .passed2 .ensures))
-    (λ c.
-    let at-under2 : tie.After-under2 Inv-loop μ-loop = search in
-    let at-else1 : tie.Else1 Inv-loop μ-loop = search in
-    comparing-next (at-else1 .before .before .loop .inv) (at-else1 .before .loop-test .taken) (at-else1 .if1 .left) (at-under2 .before .under .ensures) (at-under2 .under2 .ensures) (c .before .before .lower .ensures) (c .before .passed .ensures) (c .passed2 .ensures))
+    (λ c. search step-less)
+    (λ c. search comparing-next)
     (λ c κs. (c .before .loop .inv .lj, omega (arith, c .before .loop .inv .tb .few)))
     (λ c κs. search needs)
     (λ c.

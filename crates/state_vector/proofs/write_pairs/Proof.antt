@@ -31,25 +31,11 @@ write-pairs-spec =
     let at-start : tie.Start Inv-loop μ-loop = search in
     omega (arith, at-start .pre .0 .few))
     (λ c κs. search needs)
-    (λ c κs.
-    let at-in-loop : tie.In-loop Inv-loop μ-loop = search in
-    let at-start : tie.Start Inv-loop μ-loop = search in
-    let p = at-start .pre in
-    client-fits (p .0) (p .1) (at-in-loop .before .loop .inv) (at-in-loop .loop-test .taken))
-    (λ c κs.
-    let at-write-number : tie.After-write-number Inv-loop μ-loop = search in
-    let at-in-loop : tie.In-loop Inv-loop μ-loop = search in
-    let at-start : tie.Start Inv-loop μ-loop = search in
-    let p = at-start .pre in
-    clock-fits (p .0) (p .1) (at-in-loop .before .loop .inv) (at-in-loop .loop-test .taken) (at-write-number .write-number .ensures) (at-write-number .before .before .wide .ensures))
+    (λ c κs. search client-fits)
+    (λ c κs. search clock-fits)
     (λ c. search needs)
     (λ c. search needs)
-    (λ c.
-    let at-write-number : tie.After-write-number Inv-loop μ-loop = search in
-    let at-in-loop : tie.In-loop Inv-loop μ-loop = search in
-    let at-start : tie.Start Inv-loop μ-loop = search in
-    let p = at-start .pre in
-    writing-more (p .0) (p .1) (at-in-loop .before .loop .inv) (at-in-loop .loop-test .taken) (at-write-number .write-number .ensures) (at-write-number .before .before .wide .ensures) (c .before .before .write-number2 .ensures))
+    (λ c. search writing-more)
     (λ c. put-length (c .before .loop .inv .put))
     (λ c.
     let at-start : tie.Start Inv-loop μ-loop = search in

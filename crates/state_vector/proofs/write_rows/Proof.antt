@@ -17,8 +17,4 @@ write-rows-spec =
     let p = at-start .pre in
     (p .0, rows-fit _ _ (p .0) (p .1) (at-write-number .write-number .ensures)))
     (λ c. search needs)
-    (λ c.
-    let at-write-number : tie.After-write-number = search in
-    let at-start : tie.Start = search in
-    let p = at-start .pre in
-    rows-put _ _ (p .0) (p .1) (at-write-number .write-number .ensures) (c .before .before .write-pairs .ensures)))
+    (λ c. search rows-put))
