@@ -1,12 +1,13 @@
 -- The answers of the questions: membership, emptiness, how many clients. Assumes nothing.
 use mathlib.Core.Path.{_≡_, refl, ap, sym, subst, subst₂, _∙_}
 use mathlib.Core.Logic.{_⊎_, inl, inr, _↔_, ⊎-elim}
-use mathlib.Core.Bool.{Bool, false}
+use mathlib.Core.Bool.{Bool, true, false, not}
 use mathlib.Core.List.{List, [], _∷_}
 use Prim.Native.Nat.{ℕ, suc, _+_, _-_, _≤_, _<_}
 use native.Mathlib.Omega.{arith}
 use native.Mathlib.Decide.{ℕ-discrete}
 use lib.ListN.{length, getD}
+use borrow.Author.Tests.{not-true, not-false}
 use Rattle.varint.specs.declared.Refusal.the-variants.{Malformed}
 use Rattle.tables.specs.Answers.{Tells, says, refuses, Says, saidTold, saidCounted}
 use Rattle.tables.specs.Inner.Rows.{at, span}
@@ -14,8 +15,8 @@ use Rattle.tables.specs.declared.Told.the-variants as told
 use Rattle.tables.specs.declared.Counted.the-variants as counted
 use Rattle.tables.proofs.Saying.{says-yes, says-no}
 use Rattle.ids.specs.Rows.{Row, Holds}
-use Rattle.ids.specs.Tables.{rowsOf, Has, Among, Rising, Clients}
-use Rattle.ids.specs.Inner.{numberOf, idRow, IdTable, Fresh}
+use Rattle.ids.specs.Tables.{held, rowsOf, Table, Contains, Has, Among, Rising, Clients}
+use Rattle.ids.specs.Inner.{numberOf, idRow, IdTable, Checked, Fresh}
 use Rattle.ids.proofs.Numbering.{idAt, fit, rows-span, length-rows, Narrow, rises}
 use Rattle.ids.proofs.Reading.{holds-placed}
 
@@ -41,6 +42,18 @@ module _ (cs ss es : List ℕ) (f : Narrow ss) (g : Narrow es) (n : ℕ) (t : Id
 
   pub holds-found : (c k : ℕ) → Holds (rowsOf n cs ss es) c k → 0 < at (span (idRow cs ss es) 0 (n - 0)) (numberOf c k)
   holds-found c k h = subst (λ (v : ℕ). 0 < at (span (idRow cs ss es) 0 v) (numberOf c k)) (let z : n ≡ n - 0 = omega arith in z) (holds-placed cs ss es f g n t c k .0 h .1)
+
+-- the answers of a membership, by what was checked and what a search of all rows said
+module _ {cs ss es : List ℕ} {n : ℕ} {ok : Bool} (t : Checked cs ss es n ok) where
+  pub told-refused : {right : Bool → Type 0} → not ok ≡ true → Tells (Table (held cs ss es n)) right false (saidTold (told.Refused Malformed))
+  told-refused e = told-malformed (t .says .wrong (not-true _ e))
+
+  module _ (e : not ok ≡ false) (f : Narrow ss) (g : Narrow es) (c k : ℕ) {r : Bool} (w : Says (0 < at (span (idRow cs ss es) 0 (n - 0)) (numberOf c k)) r) where
+    pub told-held : k < 4294967296 → r ≡ true → Contains (held cs ss es n) c k told.Yes
+    told-held h p = told-yes (t .says .right (not-false _ e)) (found-holds cs ss es f g n (t .table (not-false _ e)) c k h (w .right p))
+
+    pub told-absent : r ≡ false → Contains (held cs ss es n) c k told.No
+    told-absent p = told-no (t .says .right (not-false _ e)) (λ h. w .wrong p (holds-found cs ss es f g n (t .table (not-false _ e)) c k h))
 
 pub no-rows : (cs ss es : List ℕ) (n : ℕ) → n ≡ 0 → rowsOf n cs ss es ≡ []
 no-rows cs ss es n e = ap (λ (v : ℕ). rowsOf v cs ss es) e

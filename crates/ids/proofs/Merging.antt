@@ -45,15 +45,14 @@ taking room ac aS ae wa fa ga n ta bc bs be fb m tb i j h l oc os oe oc′ os′
       two = λ b. omega (arith, l b, fa i, fb j);
     }
 
-module _ (room : ℕ) (ac aS ae : List ℕ) (wa : Wide ac) (fa : Narrow aS) (ga : Narrow ae) (n : ℕ) (ta : IdTable ac aS ae n)
-    (bc bs be : List ℕ) (wb : Wide bc) (fb : Narrow bs) (gb : Narrow be) (m : ℕ) (tb : IdTable bc bs be m) (i j : ℕ) (oc os oe : List ℕ) (k c e : ℕ) (t : Taken) where
+module _ {room : ℕ} {ac aS ae bc bs be : List ℕ} {n m i j : ℕ} {oc os oe : List ℕ} {k c e : ℕ} {t : Taken} (ta : IdTable ac aS ae n) (tb : IdTable bc bs be m) where
   -- A STEP
-  pub merging-more : (oc′ os′ oe′ : List ℕ) (a : Added) → Takes ac aS ae n i bc bs be m j t → Merging room ac aS ae n i bc bs be m j oc os oe k c e
+  pub merging-more : {oc′ os′ oe′ : List ℕ} {a : Added} → Wide ac → Narrow aS → Narrow ae → Wide bc → Narrow bs → Narrow be → Takes ac aS ae n i bc bs be m j t → Merging room ac aS ae n i bc bs be m j oc os oe k c e
       → Joins room oc os oe k c e (t .client) (t .start) (t .end) oc′ os′ oe′ a → Merging room ac aS ae n (t .i) bc bs be m (t .j) oc′ os′ oe′ (a .k) (t .client) (a .end)
-  merging-more oc′ os′ oe′ a (left h q l) z =
+  merging-more {oc′} {os′} {oe′} {a} wa fa ga wb fb gb (left h q l) z =
       subst (λ (t : Taken). Joins room oc os oe k c e (t .client) (t .start) (t .end) oc′ os′ oe′ a → Merging room ac aS ae n (t .i) bc bs be m (t .j) oc′ os′ oe′ (a .k) (t .client) (a .end)) (sym q)
       (taking room ac aS ae wa fa ga n ta bc bs be fb m tb i j h l oc os oe oc′ os′ oe′ k c e a z)
-  merging-more oc′ os′ oe′ a (right h q l) z =
+  merging-more {oc′} {os′} {oe′} {a} wa fa ga wb fb gb (right h q l) z =
       subst (λ (t : Taken). Joins room oc os oe k c e (t .client) (t .start) (t .end) oc′ os′ oe′ a → Merging room ac aS ae n (t .i) bc bs be m (t .j) oc′ os′ oe′ (a .k) (t .client) (a .end)) (sym q)
       (λ o. merging-swap (taking room bc bs be wb fb gb m tb ac aS ae fa n ta j i h l oc os oe oc′ os′ oe′ k c e a (merging-swap z) o))
 

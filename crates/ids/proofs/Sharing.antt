@@ -107,32 +107,32 @@ module _ (room : ℕ) (oc os oe : List ℕ) (k : ℕ) (oc′ os′ oe′ : List 
         old = λ l. u .count .no′ (says-false (w .on) (h .says) (λ z. omega arith));
       }
 
-module _ (room : ℕ) (ac aS ae : List ℕ) (n : ℕ) (ta : IdTable ac aS ae n) (bc bs be : List ℕ) (m : ℕ) (tb : IdTable bc bs be m) where
+-- the end of a gap
+gap-small : (bc bs be : List ℕ) (m : ℕ) → Wide bc → Narrow bs → (j q : ℕ) → GapEnd final (idRow bc bs be) m j q → q ≤ final
+gap-small bc bs be m x y j q e = ⊎-elim (λ l. omega (arith, e .inside l, x j, y j)) (λ l. omega (arith, e .last l)) (split j m)
+
+module _ {room : ℕ} {ac aS ae : List ℕ} {n : ℕ} (ta : IdTable ac aS ae n) {bc bs be : List ℕ} {m : ℕ} (tb : IdTable bc bs be m) where
   -- A STEP of the intersection
-  pub crossing-more : (i j : ℕ) → i < n → j < m → (oc os oe oc′ os′ oe′ : List ℕ) (k r : ℕ) (a b : Entry) (w : Shared) → a ≡ entryAt ac aS ae i → b ≡ entryAt bc bs be j
+  pub crossing-more : {i j k r : ℕ} {oc os oe oc′ os′ oe′ : List ℕ} {a b : Entry} {w : Shared} → i < n → j < m → a ≡ entryAt ac aS ae i → b ≡ entryAt bc bs be j
       → Shares (startOf a) (startOf b) (endOf a) (endOf b) i j (a .client) w → Puts room oc os oe k (a .client) (w .start) (w .end) (w .on) oc′ os′ oe′ r
       → Crossing (idRow ac aS ae) n i (idRow bc bs be) m j room (idRow oc os oe) k → Crossing (idRow ac aS ae) n (w .i) (idRow bc bs be) m (w .j) room (idRow oc′ os′ oe′) r
-  crossing-more i j h g oc os oe oc′ os′ oe′ k r a b w d e s u p =
+  crossing-more {i} {j} {k} {r} {oc} {os} {oe} {oc′} {os′} {oe′} {w = w} h g d e s u p =
       let z = subst₂ (λ (a b : Entry). Shares (startOf a) (startOf b) (endOf a) (endOf b) i j (a .client) w) d e s in
       let y = subst (λ (a : Entry). Puts room oc os oe k (a .client) (w .start) (w .end) (w .on) oc′ os′ oe′ r) d u in
       crossed-lays (idRow ac aS ae) n (idRow bc bs be) m room (λ _. refl) (λ _. refl) (links ac aS ae n ta) (links bc bs be m tb) i (w .i) j (w .j) k r _ _ (idRow oc os oe) (idRow oc′ os′ oe′) h g refl refl
       (z .one) (z .two) (lays room oc os oe k oc′ os′ oe′ r w z y) p
-
-  -- the end of a gap
-  gap-small : Wide bc → Narrow bs → (j q : ℕ) → GapEnd final (idRow bc bs be) m j q → q ≤ final
-  gap-small x y j q e = ⊎-elim (λ l. omega (arith, e .inside l, x j, y j)) (λ l. omega (arith, e .last l)) (split j m)
 
   -- while a row is left, so is a gap
   pub gap-ahead : Wide ac → Narrow ae → {i j k : ℕ} {row : ℕ → inner.Row} → i < n → Differing final (idRow ac aS ae) n i (idRow bc bs be) m j room row k → j ≤ m
   gap-ahead x y {i} h p = gap-left p h (omega (arith, x i, y i))
 
   -- A STEP of the difference
-  pub differing-more : Wide bc → Narrow bs → (i j : ℕ) → i < n → j ≤ m → (oc os oe oc′ os′ oe′ : List ℕ) (k r t q : ℕ) (a : Entry) (w : Shared) → a ≡ entryAt ac aS ae i
+  pub differing-more : {i j k r t q : ℕ} {oc os oe oc′ os′ oe′ : List ℕ} {a : Entry} {w : Shared} → Wide bc → Narrow bs → i < n → j ≤ m → a ≡ entryAt ac aS ae i
       → GapStart (idRow bc bs be) j t → GapEnd final (idRow bc bs be) m j q
       → Shares (startOf a) t (endOf a) q i j (a .client) w → Puts room oc os oe k (a .client) (w .start) (w .end) (w .on) oc′ os′ oe′ r
       → Differing final (idRow ac aS ae) n i (idRow bc bs be) m j room (idRow oc os oe) k → Differing final (idRow ac aS ae) n (w .i) (idRow bc bs be) m (w .j) room (idRow oc′ os′ oe′) r
-  differing-more x y i j h g oc os oe oc′ os′ oe′ k r t q a w d v b s u p =
+  differing-more {i} {j} {k} {r} {t} {q} {oc} {os} {oe} {oc′} {os′} {oe′} {w = w} x y h g d v b s u p =
       let z = subst (λ (a : Entry). Shares (startOf a) t (endOf a) q i j (a .client) w) d s in
       let o = subst (λ (a : Entry). Puts room oc os oe k (a .client) (w .start) (w .end) (w .on) oc′ os′ oe′ r) d u in
-      differed-lays (idRow ac aS ae) n (idRow bc bs be) m room (λ _. refl) (λ _. refl) (links ac aS ae n ta) (links bc bs be m tb) final i (w .i) j (w .j) k r _ _ t q (idRow oc os oe) (idRow oc′ os′ oe′) h g v b (gap-small x y j q b) refl refl
+      differed-lays (idRow ac aS ae) n (idRow bc bs be) m room (λ _. refl) (λ _. refl) (links ac aS ae n ta) (links bc bs be m tb) final i (w .i) j (w .j) k r _ _ t q (idRow oc os oe) (idRow oc′ os′ oe′) h g v b (gap-small bc bs be m x y j q b) refl refl
       (z .one) (z .two) (lays room oc os oe k oc′ os′ oe′ r w z o) p

@@ -50,7 +50,7 @@ spliced {src} {out} {out₁} {out₃} {n} {i} {j} {v} a h b =
 
 -- ## The row that is put in
 
-module _ (cs ss es : List ℕ) (f : Narrow ss) (g : Narrow es) (n : ℕ) (t : IdTable cs ss es n) where
+module _ {cs ss es : List ℕ} {n : ℕ} (f : Narrow ss) (g : Narrow es) (t : IdTable cs ss es n) where
   pub plain : Plain (idRow cs ss es) n
   plain =
       record {
@@ -92,7 +92,7 @@ module _ (cs ss es : List ℕ) (f : Narrow ss) (g : Narrow es) (n : ℕ) (t : Id
         is = ⊎-elim (λ z. let w : getD cs k 0 ≡ c = omega (arith, v .below k refl, f k, g k) in omega (arith, l .here k refl z)) (λ z. omega (arith, l .sooner k refl z)) (split (numberOf c e) (numberOf (getD cs k 0) (getD es k 0)));
       }
 
-  module _ (c s e i j x y : ℕ) (a : s < 4294967296) (b : e < 4294967296) (h : s < e) (o : i ≤ j) (u : Parted (ends (idRow cs ss es)) n (numberOf c s) i i)
+  module _ {c s e i j x y : ℕ} (a : s < 4294967296) (b : e < 4294967296) (h : s < e) (o : i ≤ j) (u : Parted (ends (idRow cs ss es)) n (numberOf c s) i i)
       (w : Parted (starts (idRow cs ss es)) n (numberOf c (e + 1)) j j) (l : Leads cs ss n i c s x) (m : Trails cs es j c e y) where
     abbrev one : inner.Row
     one = piece (numberOf c x) (numberOf c y) 1
@@ -113,13 +113,13 @@ module _ (cs ss es : List ℕ) (f : Narrow ss) (g : Narrow es) (n : ℕ) (t : Id
         ∙ (inserted (idRow cs ss es) n plain (numberOf c s) (numberOf c e) i j (p .place) (q .place) (omega arith) o (p .starting) (q .ending) u v
         ∙ ap (combined inner.union (idRows cs ss es n)) (range-one (numberOf c s) (numberOf c e) (omega arith)))
 
-    pub laid-full : (room k : ℕ) (row : ℕ → inner.Row) → k ≡ i + 1 + (n - j) → room < k → Holds room row k (combined inner.union (idRows cs ss es n) (idRows (c ∷ []) (s ∷ []) (e ∷ []) 1))
-    laid-full room k row z d = subst (λ (r : inner.Rows). Holds room row k r) rows-right (laid-over row (idRow cs ss es) i j n (one ∷ []) [] d (omega arith))
+    pub laid-full : {room k : ℕ} {row : ℕ → inner.Row} → k ≡ i + 1 + (n - j) → room < k → Holds room row k (combined inner.union (idRows cs ss es n) (idRows (c ∷ []) (s ∷ []) (e ∷ []) 1))
+    laid-full {room} {k} {row} z d = subst (λ (r : inner.Rows). Holds room row k r) rows-right (laid-over row (idRow cs ss es) i j n (one ∷ []) [] d (omega arith))
 
-    pub laid-done : (room k : ℕ) (oc os oe : List ℕ) → k ≡ i + 1 + (n - j) → k ≤ room → Spliced cs n i j c oc → Spliced ss n i j x os → Spliced es n i j y oe
+    pub laid-done : {room k : ℕ} {oc os oe : List ℕ} → k ≡ i + 1 + (n - j) → k ≤ room → Spliced cs n i j c oc → Spliced ss n i j x os → Spliced es n i j y oe
         → Holds room (idRow oc os oe) k (combined inner.union (idRows cs ss es n) (idRows (c ∷ []) (s ∷ []) (e ∷ []) 1))
     unfolding span
-    laid-done room k oc os oe z t p q r =
+    laid-done {room} {k} {oc} {os} {oe} z t p q r =
         subst (λ (d : inner.Rows). Holds room (idRow oc os oe) k d) rows-right
         (laid-holds {row = idRow oc os oe} {row₁ = idRow oc os oe} {row₂ = idRow oc os oe} {row₃ = idRow oc os oe} {x = i + 1} {y = i + 1} {mid = one ∷ []} {more = []} k
         (record { before2 = λ d z. refl; there = λ d z. subst (λ (w : ℕ). idRow oc os oe w ≡ idRow cs ss es w) (let w : d ≡ 0 + d = omega arith in w) (front d (omega arith)) })

@@ -25,13 +25,24 @@ search-at t = and 3 search-kinds.ps (is 3 search-kinds.ps μ-search t) search′
 abbrev search-below : ℕ → In 3 search-kinds.ps
 search-below t = and 3 search-kinds.ps (falls 3 search-kinds.ps _<_ μ-search t) search′.Pre
 
+abbrev Start : ℕ → Type 0
+Start t = search-lts.Start (
+  precedes-reads.Asked,
+  precedes-reads.Learnt,
+  search-below t,
+  search′.Post,
+) (search-at t) search′.Post
+
 search-returns : (t : ℕ) → search-lts.Need-returns (
   precedes-reads.Asked,
   precedes-reads.Learnt,
   search-below t,
   search′.Post,
 ) (search-at t) search′.Post
-search-returns t c = let a = c .before .before .before .before .args in says-no (look-empty (idRow (a .clients .now) (a .starts .now) (a .ends .now)) (a .n) (links _ _ _ _ (c .before .before .before .before .pre .1 .0)) (numberOf (a .client) (a .clock)) (a .lo) (a .hi) (c .if1 .taken))
+search-returns t c =
+    let s : Start t = search in
+    let a = s .args in
+    says-no (look-empty (idRow (a .clients .now) (a .starts .now) (a .ends .now)) (a .n) (links _ _ _ _ (s .pre .1 .0)) (numberOf (a .client) (a .clock)) (a .lo) (a .hi) (c .if1 .taken))
 
 search-sub-mid : (t : ℕ) → search-lts.Need-sub-mid (
   precedes-reads.Asked,
@@ -63,7 +74,9 @@ search-shared-slice-read-c : (t : ℕ) → search-lts.Need-shared-slice-read-c (
   search-below t,
   search′.Post,
 ) (search-at t) search′.Post
-search-shared-slice-read-c t c = omega (arith, c .before .before .before .before .before .pre .1 .0 .few)
+search-shared-slice-read-c t c =
+    let s : Start t = search in
+    omega (arith, s .pre .1 .0 .few)
 
 search-mul-precedes : (t : ℕ) → search-lts.Need-mul-precedes (
   precedes-reads.Asked,
@@ -79,7 +92,9 @@ search-shared-slice-read-precedes : (t : ℕ) → search-lts.Need-shared-slice-r
   search-below t,
   search′.Post,
 ) (search-at t) search′.Post
-search-shared-slice-read-precedes t c = omega (arith, c .before .before .before .before .before .before .pre .1 .0 .few)
+search-shared-slice-read-precedes t c =
+    let s : Start t = search in
+    omega (arith, s .pre .1 .0 .few)
 
 search-precedes-requires : (t : ℕ) → search-lts.Need-precedes-requires (
   precedes-reads.Asked,
@@ -95,7 +110,9 @@ search-search-requires : (t : ℕ) → search-lts.Need-search-requires (
   search-below t,
   search′.Post,
 ) (search-at t) search′.Post
-search-search-requires t c κs = (omega (arith, c .before .before .before .before .before .before .before .before .pre .0), (c .before .before .before .before .before .before .before .before .pre .1 .0, omega arith))
+search-search-requires t c κs =
+    let s : Start t = search in
+    (omega (arith, s .pre .0), (s .pre .1 .0, omega arith))
 
 search-returns-2 : (t : ℕ) → search-lts.Need-returns-2 (
   precedes-reads.Asked,
@@ -103,7 +120,10 @@ search-returns-2 : (t : ℕ) → search-lts.Need-returns-2 (
   search-below t,
   search′.Post,
 ) (search-at t) search′.Post
-search-returns-2 t c = let a = c .before .before .before .before .before .before .before .before .before .args in look-left (idRow (a .clients .now) (a .starts .now) (a .ends .now)) (a .n) (links _ _ _ _ (c .before .before .before .before .before .before .before .before .before .pre .1 .0)) (numberOf (a .client) (a .clock)) (a .lo) ((a .lo + (a .hi - 1)) / 2) (a .hi) _ (c .before .before .before .before .before .before .before .before .before .pre .1 .1) (omega arith) (omega arith) (c .before .before .precedes .ensures .right (c .before .if2 .taken)) (c .search .ensures)
+search-returns-2 t c =
+    let s : Start t = search in
+    let a = s .args in
+    look-left (idRow (a .clients .now) (a .starts .now) (a .ends .now)) (a .n) (links _ _ _ _ (s .pre .1 .0)) (numberOf (a .client) (a .clock)) (a .lo) ((a .lo + (a .hi - 1)) / 2) (a .hi) _ (s .pre .1 .1) (omega arith) (omega arith) (c .before .before .precedes .ensures .right (c .before .if2 .taken)) (c .search .ensures)
 
 search-mul-precedes-2 : (t : ℕ) → search-lts.Need-mul-precedes-2 (
   precedes-reads.Asked,
@@ -119,7 +139,9 @@ search-shared-slice-read-precedes-2 : (t : ℕ) → search-lts.Need-shared-slice
   search-below t,
   search′.Post,
 ) (search-at t) search′.Post
-search-shared-slice-read-precedes-2 t c = omega (arith, c .before .before .before .before .before .before .before .before .before .pre .1 .0 .few)
+search-shared-slice-read-precedes-2 t c =
+    let s : Start t = search in
+    omega (arith, s .pre .1 .0 .few)
 
 search-precedes-requires-2 : (t : ℕ) → search-lts.Need-precedes-requires-2 (
   precedes-reads.Asked,
@@ -135,7 +157,11 @@ search-returns-3 : (t : ℕ) → search-lts.Need-returns-3 (
   search-below t,
   search′.Post,
 ) (search-at t) search′.Post
-search-returns-3 t c = let a = c .before .before .before .before .before .before .before .before .before .before .before .args in let n = c .before .before .before .before .precedes .ensures .wrong (c .before .before .before .if2 .left) in says-yes (look-at (idRow (a .clients .now) (a .starts .now) (a .ends .now)) (a .n) (links _ _ _ _ (c .before .before .before .before .before .before .before .before .before .before .before .pre .1 .0)) (numberOf (a .client) (a .clock)) (a .lo) ((a .lo + (a .hi - 1)) / 2) (a .hi) (c .before .before .before .before .before .before .before .before .before .before .before .pre .1 .1) (omega arith) (omega arith) (omega arith) (c .before .precedes2 .ensures .right (c .if3 .taken)))
+search-returns-3 t c =
+    let s : Start t = search in
+    let a = s .args in
+    let n = c .before .before .before .before .precedes .ensures .wrong (c .before .before .before .if2 .left) in
+    says-yes (look-at (idRow (a .clients .now) (a .starts .now) (a .ends .now)) (a .n) (links _ _ _ _ (s .pre .1 .0)) (numberOf (a .client) (a .clock)) (a .lo) ((a .lo + (a .hi - 1)) / 2) (a .hi) (s .pre .1 .1) (omega arith) (omega arith) (omega arith) (c .before .precedes2 .ensures .right (c .if3 .taken)))
 
 search-add-search : (t : ℕ) → search-lts.Need-add-search (
   precedes-reads.Asked,
@@ -151,7 +177,9 @@ search-search-requires-2 : (t : ℕ) → search-lts.Need-search-requires-2 (
   search-below t,
   search′.Post,
 ) (search-at t) search′.Post
-search-search-requires-2 t c κs = (omega (arith, c .before .before .before .before .before .before .before .before .before .before .before .pre .0), (c .before .before .before .before .before .before .before .before .before .before .before .pre .1 .0, omega arith))
+search-search-requires-2 t c κs =
+    let s : Start t = search in
+    (omega (arith, s .pre .0), (s .pre .1 .0, omega arith))
 
 search-returns-4 : (t : ℕ) → search-lts.Need-returns-4 (
   precedes-reads.Asked,
@@ -159,7 +187,11 @@ search-returns-4 : (t : ℕ) → search-lts.Need-returns-4 (
   search-below t,
   search′.Post,
 ) (search-at t) search′.Post
-search-returns-4 t c = let a = c .before .before .before .before .before .before .before .before .before .before .before .before .args in let n = c .before .before .precedes2 .ensures .wrong (c .before .if3 .left) in look-right (idRow (a .clients .now) (a .starts .now) (a .ends .now)) (a .n) (links _ _ _ _ (c .before .before .before .before .before .before .before .before .before .before .before .before .pre .1 .0)) (numberOf (a .client) (a .clock)) (a .lo) ((a .lo + (a .hi - 1)) / 2) (a .hi) _ (c .before .before .before .before .before .before .before .before .before .before .before .before .pre .1 .1) (omega arith) (omega arith) (omega arith) (c .search2 .ensures)
+search-returns-4 t c =
+    let s : Start t = search in
+    let a = s .args in
+    let n = c .before .before .precedes2 .ensures .wrong (c .before .if3 .left) in
+    look-right (idRow (a .clients .now) (a .starts .now) (a .ends .now)) (a .n) (links _ _ _ _ (s .pre .1 .0)) (numberOf (a .client) (a .clock)) (a .lo) ((a .lo + (a .hi - 1)) / 2) (a .hi) _ (s .pre .1 .1) (omega arith) (omega arith) (omega arith) (c .search2 .ensures)
 
 pub +search-spec : {M : Type 1} → statement M
 +search-spec = close μ-search λ t. search-lts.spec (

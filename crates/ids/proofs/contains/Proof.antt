@@ -1,6 +1,6 @@
 use native.Mathlib.Omega.{arith}
-use borrow.Author.Tests.{not-true, not-false}
-use Rattle.ids.proofs.Asking.{told-malformed, told-yes, told-no, found-holds, holds-found}
+use borrow.Author.Tests.{not-false}
+use Rattle.ids.proofs.Asking.{told-refused, told-held, told-absent}
 use borrow.Author.Needs.{needs}
 use Rattle.ids.proofs.contains.Statement.{statement}
 use Rattle.ids.proofs.contains.Tie as tie
@@ -9,18 +9,16 @@ well-formed-requires : tie.Need-well-formed-requires
 well-formed-requires c κs = search needs
 
 returns : tie.Need-returns
-returns c = told-malformed (c .before .well-formed .ensures .says .wrong (not-true _ (c .if1 .taken)))
+returns c = told-refused (c .before .well-formed .ensures) (c .if1 .taken)
 
 search-requires : tie.Need-search-requires
 search-requires c κs = (c .before .well-formed .ensures .table (not-false _ (c .if1 .left)), omega arith)
 
 returns-2 : tie.Need-returns-2
-returns-2 c = told-yes (c .before .before .before .well-formed .ensures .says .right (not-false _ (c .before .before .if1 .left)))
-    (found-holds _ _ _ (c .before .before .before .before .before .shared-slice-known2 .given) (c .before .before .before .before .shared-slice-known3 .given) _ (c .before .before .before .well-formed .ensures .table (not-false _ (c .before .before .if1 .left))) _ _ (omega arith) (c .before .search .ensures .right (c .if2 .taken)))
+returns-2 c = told-held (c .before .before .before .well-formed .ensures) (c .before .before .if1 .left) (search) (search) _ _ (c .before .search .ensures) (omega arith) (c .if2 .taken)
 
 returns-3 : tie.Need-returns-3
-returns-3 c = told-no (c .before .before .before .well-formed .ensures .says .right (not-false _ (c .before .before .if1 .left)))
-    (λ h. c .before .search .ensures .wrong (c .if2 .left) (holds-found _ _ _ (c .before .before .before .before .before .shared-slice-known2 .given) (c .before .before .before .before .shared-slice-known3 .given) _ (c .before .before .before .well-formed .ensures .table (not-false _ (c .before .before .if1 .left))) _ _ h))
+returns-3 c = told-absent (c .before .before .before .well-formed .ensures) (c .before .before .if1 .left) (search) (search) _ _ (c .before .search .ensures) (c .if2 .left)
 
 pub contains-spec : {M : Type 1} → statement M
 contains-spec =

@@ -5,7 +5,9 @@ use Rattle.ids.proofs.copy_rows.Statement.{statement}
 use Rattle.ids.proofs.copy_rows.Tie as tie
 
 returns : tie.Need-returns
-returns c = copied-over (c .before .before .before .before .before .before .before .args .clients .now) (c .before .before .before .before .before .before .before .args .starts .now) (c .before .before .before .before .before .before .before .args .ends .now) (c .if1 .taken)
+returns c =
+    let at-start : tie.Start = search in
+    copied-over (at-start .args .clients .now) (at-start .args .starts .now) (at-start .args .ends .now) (c .if1 .taken)
 
 shift-wide-requires : tie.Need-shift-wide-requires
 shift-wide-requires c κs = search needs
@@ -26,7 +28,10 @@ same-length-3 : tie.Need-same-length-3
 same-length-3 c = search needs
 
 returns-2 : tie.Need-returns-2
-returns-2 c = copied-rows (omega arith) (c .before .before .before .before .before .before .before .before .before .before .shift-wide .ensures) (c .before .before .before .before .before .before .shift .ensures) (c .before .before .shift2 .ensures)
+returns-2 c =
+    let at-shift : tie.After-shift = search in
+    let at-shift-wide : tie.After-shift-wide = search in
+    copied-rows (omega arith) (at-shift-wide .shift-wide .ensures) (at-shift .shift .ensures) (c .before .before .shift2 .ensures)
 
 pub copy-rows-spec : {M : Type 1} → statement M
 copy-rows-spec =

@@ -42,7 +42,9 @@ loop-less : tie.Need-loop-less Inv-loop μ-loop
 loop-less c = search needs
 
 loop-again : tie.Need-loop-again Inv-loop μ-loop
-loop-again c = (parted-left (c .before .before .before .before .before .loop .lo + (c .before .before .before .before .before .loop .hi - c .before .before .before .before .before .loop .lo) / 2) (c .before .before .before .before .before .loop .inv .0) (omega arith) (omega arith) (c .before .past .ensures .right (c .if1 .taken)), omega arith)
+loop-again c =
+    let at-at-loop : tie.At-loop Inv-loop μ-loop = search in
+    (parted-left (at-at-loop .loop .lo + (at-at-loop .loop .hi - at-at-loop .loop .lo) / 2) (at-at-loop .loop .inv .0) (omega arith) (omega arith) (c .before .past .ensures .right (c .if1 .taken)), omega arith)
 
 add-lo : tie.Need-add-lo Inv-loop μ-loop
 add-lo c = search needs
@@ -51,7 +53,9 @@ loop-less-2 : tie.Need-loop-less-2 Inv-loop μ-loop
 loop-less-2 c = search needs
 
 loop-again-2 : tie.Need-loop-again-2 Inv-loop μ-loop
-loop-again-2 c = let n = c .before .past .ensures .wrong (c .if1 .left) in (parted-right (c .before .before .before .before .before .loop .lo + (c .before .before .before .before .before .loop .hi - c .before .before .before .before .before .loop .lo) / 2) (c .before .before .before .before .before .loop .inv .0) (omega arith) (omega arith) (omega arith), omega arith)
+loop-again-2 c =
+    let at-at-loop : tie.At-loop Inv-loop μ-loop = search in
+    let n = c .before .past .ensures .wrong (c .if1 .left) in (parted-right (at-at-loop .loop .lo + (at-at-loop .loop .hi - at-at-loop .loop .lo) / 2) (at-at-loop .loop .inv .0) (omega arith) (omega arith) (omega arith), omega arith)
 
 returns : tie.Need-returns Inv-loop μ-loop
 returns c = (parted-met (c .before .loop .inv .0) (omega arith), c .before .loop .inv .1)

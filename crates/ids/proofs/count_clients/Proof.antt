@@ -13,13 +13,17 @@ abbrev μ-loop : tie.MeasureT-loop
 μ-loop clients starts ends n many₀ i₀ many i = i
 
 returns : tie.Need-returns Inv-loop μ-loop
-returns c = counting-none _ _ _ (c .before .before .shared-slice-known2 .given) _ (c .before .before .before .before .pre) (c .if1 .taken)
+returns c =
+    let at-start : tie.Start Inv-loop μ-loop = search in
+    counting-none _ _ _ (c .before .before .shared-slice-known2 .given) _ (at-start .pre) (c .if1 .taken)
 
 sub-i : tie.Need-sub-i Inv-loop μ-loop
 sub-i c = search needs
 
 loop-holds : tie.Need-loop-holds Inv-loop μ-loop
-loop-holds c = (omega arith, omega arith, counting-one _ _ _ (c .before .before .shared-slice-known2 .given) _ (c .before .before .before .before .pre) (omega arith))
+loop-holds c =
+    let at-start : tie.Start Inv-loop μ-loop = search in
+    (omega arith, omega arith, counting-one _ _ _ (c .before .before .shared-slice-known2 .given) _ (at-start .pre) (omega arith))
 
 sub-j : tie.Need-sub-j Inv-loop μ-loop
 sub-j c = search needs
@@ -28,19 +32,25 @@ mul-fresh : tie.Need-mul-fresh Inv-loop μ-loop
 mul-fresh c = search needs
 
 shared-slice-read-fresh : tie.Need-shared-slice-read-fresh Inv-loop μ-loop
-shared-slice-read-fresh c = omega (arith, c .before .before .before .before .before .before .before .pre .few)
+shared-slice-read-fresh c =
+    let at-start : tie.Start Inv-loop μ-loop = search in
+    omega (arith, at-start .pre .few)
 
 mul-fresh-2 : tie.Need-mul-fresh-2 Inv-loop μ-loop
 mul-fresh-2 c = search needs
 
 shared-slice-read-fresh-2 : tie.Need-shared-slice-read-fresh-2 Inv-loop μ-loop
-shared-slice-read-fresh-2 c = omega (arith, c .before .before .before .before .before .before .before .before .pre .few)
+shared-slice-read-fresh-2 c =
+    let at-start : tie.Start Inv-loop μ-loop = search in
+    omega (arith, at-start .pre .few)
 
 fresh-requires : tie.Need-fresh-requires Inv-loop μ-loop
 fresh-requires c κs = search needs
 
 add-many : tie.Need-add-many Inv-loop μ-loop
-add-many c = let f = fresh-most (c .fresh .ensures) in omega (arith, c .before .before .before .before .before .before .before .before .before .pre .few)
+add-many c =
+    let at-start : tie.Start Inv-loop μ-loop = search in
+    let f = fresh-most (c .fresh .ensures) in omega (arith, at-start .pre .few)
 
 loop-less : tie.Need-loop-less Inv-loop μ-loop
 loop-less c = search needs
@@ -49,7 +59,9 @@ loop-again : tie.Need-loop-again Inv-loop μ-loop
 loop-again c = (omega arith, one-more _ _ _ _ (omega arith) (c .before .before .before .before .loop .inv .0) (c .before .before .before .before .loop .inv .1) (fresh-most (c .fresh .ensures)), counting-more _ _ _ (c .before .before .before .before .before .before .before .shared-slice-known2 .given) _ (c .before .before .before .before .before .before .before .before .before .pre) _ _ _ (omega arith) (c .before .before .before .before .loop .inv .0) (c .before .before .before .before .loop .inv .2) (c .fresh .ensures))
 
 returns-2 : tie.Need-returns-2 Inv-loop μ-loop
-returns-2 c = counting-all _ _ _ (c .before .before .before .before .shared-slice-known2 .given) _ (c .before .before .before .before .before .before .pre) _ _ (omega arith) (c .before .loop .inv .2)
+returns-2 c =
+    let at-known2 : tie.After-shared-slice-known2 Inv-loop μ-loop = search in
+    counting-all _ _ _ (at-known2 .shared-slice-known2 .given) _ (at-known2 .before .before .pre) _ _ (omega arith) (c .before .loop .inv .2)
 
 pub count-clients-spec : {M : Type 1} → statement M
 count-clients-spec =

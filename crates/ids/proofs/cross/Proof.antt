@@ -20,7 +20,9 @@ abbrev μ-loop : tie.MeasureT-loop
 μ-loop clients starts ends n b-clients b-starts b-ends m to-clients₀ to-starts₀ to-ends₀ most i₀ j₀ k₀ to-clients to-starts to-ends i j k = (n + m) - (i + j)
 
 loop-holds : tie.Need-loop-holds Inv-loop μ-loop
-loop-holds c = (refl, refl, refl, record { place = 0; crossed = crossed-none _ _ _ _ _ (λ _. refl) (λ _. refl) (links _ _ _ _ (c .before .before .before .before .before .before .before .before .before .pre .0)) (links _ _ _ _ (c .before .before .before .before .before .before .before .before .before .pre .1 .0)) _ })
+loop-holds c =
+    let at-start : tie.Start Inv-loop μ-loop = search in
+    (refl, refl, refl, record { place = 0; crossed = crossed-none _ _ _ _ _ (λ _. refl) (λ _. refl) (links _ _ _ _ (at-start .pre .0)) (links _ _ _ _ (at-start .pre .1 .0)) _ })
 
 same-length : tie.Need-same-length Inv-loop μ-loop
 same-length c = c .before .before .loop .inv .0
@@ -32,30 +34,52 @@ same-length-3 : tie.Need-same-length-3 Inv-loop μ-loop
 same-length-3 c = c .before .before .loop .inv .2
 
 returns : tie.Need-returns Inv-loop μ-loop
-returns c = crossed-right _ _ _ _ _ (λ _. refl) (λ _. refl) (links _ _ _ _ (c .before .before .before .before .before .before .before .before .before .before .before .before .pre .0)) (links _ _ _ _ (c .before .before .before .before .before .before .before .before .before .before .before .before .pre .1 .0)) _ _ _ _ _ (c .if1 .taken) (c .before .before .loop .inv .3 .crossed)
+returns c =
+    let at-start : tie.Start Inv-loop μ-loop = search in
+    crossed-right _ _ _ _ _ (λ _. refl) (λ _. refl) (links _ _ _ _ (at-start .pre .0)) (links _ _ _ _ (at-start .pre .1 .0)) _ _ _ _ _ (c .if1 .taken) (c .before .before .loop .inv .3 .crossed)
 
 row-at-requires : tie.Need-row-at-requires Inv-loop μ-loop
-row-at-requires c κs = omega (arith, c .before .before .before .before .before .before .before .before .before .before .before .before .pre .0 .few, c .before .loop-test .taken)
+row-at-requires c κs =
+    let at-start : tie.Start Inv-loop μ-loop = search in
+    omega (arith, at-start .pre .0 .few, c .before .loop-test .taken)
 
 row-at-requires-2 : tie.Need-row-at-requires-2 Inv-loop μ-loop
-row-at-requires-2 c κs = omega (arith, c .before .before .before .before .before .before .before .before .before .before .before .before .before .pre .1 .0 .few, c .before .if1 .left)
+row-at-requires-2 c κs =
+    let at-start : tie.Start Inv-loop μ-loop = search in
+    omega (arith, at-start .pre .1 .0 .few, c .before .if1 .left)
 
 share-requires : tie.Need-share-requires Inv-loop μ-loop
-share-requires c κs = (omega (arith, c .before .before .before .before .before .before .before .before .before .before .before .before .before .before .pre .0 .few, c .before .before .before .loop-test .taken), omega (arith, c .before .before .before .before .before .before .before .before .before .before .before .before .before .before .pre .1 .0 .few, c .before .before .if1 .left))
+share-requires c κs =
+    let at-in-loop : tie.In-loop Inv-loop μ-loop = search in
+    let at-start : tie.Start Inv-loop μ-loop = search in
+    (omega (arith, at-start .pre .0 .few, at-in-loop .loop-test .taken), omega (arith, at-start .pre .1 .0 .few, c .before .before .if1 .left))
 
 keep-requires : tie.Need-keep-requires Inv-loop μ-loop
-keep-requires c κs = (omega (arith, c .before .before .before .before .before .before .before .before .loop .inv .0, c .before .before .before .before .before .before .before .before .loop .inv .1, c .before .before .before .before .before .before .before .before .loop .inv .2, c .before .before .before .before .before .before .before .before .before .before .before .before .before .before .before .before .before .before .pre .1 .1), omega (arith, c .before .before .before .before .before .before .before .before .loop .inv .3 .crossed .few, c .before .before .before .before .before .before .before .before .before .before .before .before .before .before .before .before .before .before .pre .0 .few, c .before .before .before .before .before .before .before .before .before .before .before .before .before .before .before .before .before .before .pre .1 .0 .few, c .before .before .before .before .before .before .before .loop-test .taken, c .before .before .before .before .before .before .if1 .left))
+keep-requires c κs =
+    let at-else1 : tie.Else1 Inv-loop μ-loop = search in
+    let at-start : tie.Start Inv-loop μ-loop = search in
+    (omega (arith, at-else1 .before .before .loop .inv .0, at-else1 .before .before .loop .inv .1, at-else1 .before .before .loop .inv .2, at-start .pre .1 .1), omega (arith, at-else1 .before .before .loop .inv .3 .crossed .few, at-start .pre .0 .few, at-start .pre .1 .0 .few, at-else1 .before .loop-test .taken, at-else1 .if1 .left))
 
 loop-less : tie.Need-loop-less Inv-loop μ-loop
-loop-less c = less-left _ _ _ _ _ _ (c .before .before .before .before .before .before .before .before .before .before .before .before .before .before .before .loop .inv .3 .crossed .one .reached .within) (c .before .before .before .before .before .before .before .before .before .before .before .before .before .before .before .loop .inv .3 .crossed .two .reached .within) (c .before .before .before .before .before .before .before .before .before .before .before .before .before .before .loop-test .taken) (moves _ _ _ _ _ _ _ refl (c .before .before .before .before .before .before .before .before .before .before .share .ensures .one) (c .before .before .before .before .before .before .before .before .before .before .share .ensures .two))
+loop-less c =
+    let at-share : tie.After-share Inv-loop μ-loop = search in
+    let at-in-loop : tie.In-loop Inv-loop μ-loop = search in
+    less-left _ _ _ _ _ _ (at-in-loop .before .loop .inv .3 .crossed .one .reached .within) (at-in-loop .before .loop .inv .3 .crossed .two .reached .within) (at-in-loop .loop-test .taken) (moves _ _ _ _ _ _ _ refl (at-share .share .ensures .one) (at-share .share .ensures .two))
+
+abbrev start : tie.Else1 Inv-loop μ-loop → tie.Start Inv-loop μ-loop
+start c = search
 
 loop-again : tie.Need-loop-again Inv-loop μ-loop
-loop-again c = (
-  c .before .before .before .before .before .before .keep .kept .0 ∙ c .before .before .before .before .before .before .before .before .before .before .before .before .before .before .before .loop .inv .0,
-  c .before .before .before .before .before .before .keep .kept .1 .0 ∙ c .before .before .before .before .before .before .before .before .before .before .before .before .before .before .before .loop .inv .1,
-  c .before .before .before .before .before .before .keep .kept .1 .1 .0 ∙ c .before .before .before .before .before .before .before .before .before .before .before .before .before .before .before .loop .inv .2,
-  crossing-more _ _ _ _ _ (c .before .before .before .before .before .before .before .before .before .before .before .before .before .before .before .before .before .before .before .before .before .before .before .before .before .pre .0) _ _ _ _ (c .before .before .before .before .before .before .before .before .before .before .before .before .before .before .before .before .before .before .before .before .before .before .before .before .before .pre .1 .0) _ _ (c .before .before .before .before .before .before .before .before .before .before .before .before .before .before .loop-test .taken) (c .before .before .before .before .before .before .before .before .before .before .before .before .before .if1 .left) _ _ _ _ _ _ _ _ _ _ _ (c .before .before .before .before .before .before .before .before .before .before .before .before .row-at .ensures) (c .before .before .before .before .before .before .before .before .before .before .before .row-at2 .ensures) (c .before .before .before .before .before .before .before .before .before .before .share .ensures) (c .before .before .before .before .before .before .keep .ensures) (c .before .before .before .before .before .before .before .before .before .before .before .before .before .before .before .loop .inv .3),
-)
+loop-again c =
+    let at-keep : tie.After-keep Inv-loop μ-loop = search in
+    let at-share : tie.After-share Inv-loop μ-loop = search in
+    let at-else1 : tie.Else1 Inv-loop μ-loop = search in
+    let at-start = start at-else1 in (
+      at-keep .keep .kept .0 ∙ at-else1 .before .before .loop .inv .0,
+      at-keep .keep .kept .1 .0 ∙ at-else1 .before .before .loop .inv .1,
+      at-keep .keep .kept .1 .1 .0 ∙ at-else1 .before .before .loop .inv .2,
+      crossing-more (at-start .pre .0) (at-start .pre .1 .0) (at-else1 .before .loop-test .taken) (at-else1 .if1 .left) (at-share .before .before .row-at .ensures) (at-share .before .row-at2 .ensures) (at-share .share .ensures) (at-keep .keep .ensures) (at-else1 .before .before .loop .inv .3),
+    )
 
 same-length-4 : tie.Need-same-length-4 Inv-loop μ-loop
 same-length-4 c = c .before .loop .inv .0
@@ -67,7 +91,9 @@ same-length-6 : tie.Need-same-length-6 Inv-loop μ-loop
 same-length-6 c = c .before .loop .inv .2
 
 returns-2 : tie.Need-returns-2 Inv-loop μ-loop
-returns-2 c = crossed-left _ _ _ _ _ (λ _. refl) (λ _. refl) (links _ _ _ _ (c .before .before .before .before .before .before .before .before .before .before .before .pre .0)) (links _ _ _ _ (c .before .before .before .before .before .before .before .before .before .before .before .pre .1 .0)) _ _ _ _ _ (c .loop-test .left) (c .before .loop .inv .3 .crossed)
+returns-2 c =
+    let at-start : tie.Start Inv-loop μ-loop = search in
+    crossed-left _ _ _ _ _ (λ _. refl) (λ _. refl) (links _ _ _ _ (at-start .pre .0)) (links _ _ _ _ (at-start .pre .1 .0)) _ _ _ _ _ (c .loop-test .left) (c .before .loop .inv .3 .crossed)
 
 pub cross-spec : {M : Type 1} → statement M
 cross-spec =

@@ -17,7 +17,9 @@ further-requires : tie.Need-further-requires
 further-requires c κs = search needs
 
 sub-store : tie.Need-sub-store
-sub-store c = counted-some _ _ _ _ _ _ (c .before .before .before .before .before .before .before .before .before .before .before .before .before .before .pre .1 .0 .last) (c .before .before .counted .ensures)
+sub-store c =
+    let at-start : tie.Start = search in
+    counted-some _ _ _ _ _ _ (at-start .pre .1 .0 .last) (c .before .before .counted .ensures)
 
 sub-store-2 : tie.Need-sub-store-2
 sub-store-2 c = search needs
@@ -38,7 +40,12 @@ same-length-3 : tie.Need-same-length-3
 same-length-3 c = search needs
 
 returns : tie.Need-returns
-returns c = joins _ _ _ _ _ _ _ _ _ _ _ _ _ _ _ (c .before .before .before .before .before .before .before .before .before .before .before .before .before .before .before .before .before .pre .1 .0) (c .before .before .before .before .before .before .before .before .before .before .before .before .before .before .before .before .before .pre .1 .1 .1) (c .before .before .before .before .before .before .before .before .before .before .before .before .before .before .before .before .before .pre .1 .1 .2) (c .before .before .before .before .before .before .before .before .before .before .before .before .store-wide .ensures) (c .before .before .before .before .before .before .before .before .store .ensures) (c .before .before .before .before .before .counted .ensures) (c .before .before .before .before .further .ensures) (c .before .before .store2 .ensures)
+returns c =
+    let at-further : tie.After-further = search in
+    let at-store : tie.After-store = search in
+    let at-store-wide : tie.After-store-wide = search in
+    let at-start : tie.Start = search in
+    joins _ _ _ _ _ _ _ _ _ _ _ _ _ _ _ (at-start .pre .1 .0) (at-start .pre .1 .1 .1) (at-start .pre .1 .1 .2) (at-store-wide .store-wide .ensures) (at-store .store .ensures) (at-further .before .counted .ensures) (at-further .further .ensures) (c .before .before .store2 .ensures)
 
 pub join-spec : {M : Type 1} → statement M
 join-spec =

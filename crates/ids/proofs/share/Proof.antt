@@ -9,7 +9,9 @@ share-near-requires : tie.Need-share-near-requires
 share-near-requires c κs = search needs
 
 returns : tie.Need-returns
-returns c = let b = both-true _ _ (c .before .if1 .taken) in shares-same (c .before .before .before .before .before .before .args .a) (c .before .before .before .before .before .before .args .g) (c .before .before .before .before .before .before .args .h) (eqb-true _ _ (b .0)) (eqb-true _ _ (b .1)) (c .share-near .ensures)
+returns c =
+    let at-start : tie.Start = search in
+    let b = both-true _ _ (c .before .if1 .taken) in shares-same (at-start .args .a) (at-start .args .g) (at-start .args .h) (eqb-true _ _ (b .0)) (eqb-true _ _ (b .1)) (c .share-near .ensures)
 
 share-far-requires : tie.Need-share-far-requires
 share-far-requires c κs = search needs

@@ -41,8 +41,7 @@ pick-requires-2 : tie.Need-pick-requires-2
 pick-requires-2 c κs = search needs
 
 returns : tie.Need-returns
-returns c = shares-far _ _ _ _ _ _ _ _ _ _ _ _ _ _ _ _ _ _ _ (omega arith) (omega arith) (omega arith) (c .before .before .before .before .before .before .before .before .before .precedes .ensures) (c .before .before .before .before .before .before .before .before .precedes2 .ensures) (c .before .before .before .before .before .before .before .precedes3 .ensures) (c .before .before .before .before .before .before .precedes4 .ensures) (c .before .before .before .before .before .precedes5 .ensures) (c .before .before .before .before .precedes6 .ensures)
-    (c .before .before .before .pick-place .ensures) (c .before .before .pick-place2 .ensures) (c .before .pick .ensures) (c .pick2 .ensures)
+returns c = search (shares-far, needs)
 
 pub share-far-spec : {M : Type 1} → statement M
 share-far-spec =

@@ -20,13 +20,19 @@ add-shift : tie.Need-add-shift
 add-shift c = search needs
 
 shift-requires-2 : tie.Need-shift-requires-2
-shift-requires-2 c κs = (omega arith, omega arith, simp length-set (omega (arith, c .before .before .before .shift .kept .1 .1 .1 .0)))
+shift-requires-2 c κs =
+    let at-shift : tie.After-shift = search in
+    (omega arith, omega arith, simp length-set (omega (arith, at-shift .shift .kept .1 .1 .1 .0)))
 
 same-length : tie.Need-same-length
-same-length c = c .before .before .shift2 .kept .1 .1 .1 .0 ∙ simp length-set (c .before .before .before .before .before .before .shift .kept .1 .1 .1 .0)
+same-length c =
+    let at-shift : tie.After-shift = search in
+    c .before .before .shift2 .kept .1 .1 .1 .0 ∙ simp length-set (at-shift .shift .kept .1 .1 .1 .0)
 
 returns : tie.Need-returns
-returns c = spliced (c .before .before .before .before .before .before .shift .ensures) (omega (arith, c .before .before .before .before .before .before .shift .kept .1 .1 .1 .0)) (c .before .before .shift2 .ensures)
+returns c =
+    let at-shift : tie.After-shift = search in
+    spliced (at-shift .shift .ensures) (omega (arith, at-shift .shift .kept .1 .1 .1 .0)) (c .before .before .shift2 .ensures)
 
 pub splice-spec : {M : Type 1} → statement M
 splice-spec =

@@ -20,13 +20,19 @@ add-shift-wide : tie.Need-add-shift-wide
 add-shift-wide c = search needs
 
 shift-wide-requires-2 : tie.Need-shift-wide-requires-2
-shift-wide-requires-2 c κs = (omega arith, omega arith, simp length-set (omega (arith, c .before .before .before .shift-wide .kept .1 .1 .1 .0)))
+shift-wide-requires-2 c κs =
+    let at-shift-wide : tie.After-shift-wide = search in
+    (omega arith, omega arith, simp length-set (omega (arith, at-shift-wide .shift-wide .kept .1 .1 .1 .0)))
 
 same-length : tie.Need-same-length
-same-length c = c .before .before .shift-wide2 .kept .1 .1 .1 .0 ∙ simp length-set (c .before .before .before .before .before .before .shift-wide .kept .1 .1 .1 .0)
+same-length c =
+    let at-shift-wide : tie.After-shift-wide = search in
+    c .before .before .shift-wide2 .kept .1 .1 .1 .0 ∙ simp length-set (at-shift-wide .shift-wide .kept .1 .1 .1 .0)
 
 returns : tie.Need-returns
-returns c = spliced (c .before .before .before .before .before .before .shift-wide .ensures) (omega (arith, c .before .before .before .before .before .before .shift-wide .kept .1 .1 .1 .0)) (c .before .before .shift-wide2 .ensures)
+returns c =
+    let at-shift-wide : tie.After-shift-wide = search in
+    spliced (at-shift-wide .shift-wide .ensures) (omega (arith, at-shift-wide .shift-wide .kept .1 .1 .1 .0)) (c .before .before .shift-wide2 .ensures)
 
 pub splice-wide-spec : {M : Type 1} → statement M
 splice-wide-spec =

@@ -25,10 +25,16 @@ precedes-requires : tie.Need-precedes-requires
 precedes-requires c κs = search needs
 
 returns-2 : tie.Need-returns-2
-returns-2 c = trails-past (c .before .before .before .before .before .before .before .args .clients .now) (c .before .before .before .before .before .before .before .args .ends .now) (c .before .before .before .before .before .before .before .args .j) (c .before .before .before .before .before .before .before .args .c) (c .before .before .before .before .before .before .before .args .e) (c .before .before .before .before .if1 .left) (c .before .precedes .ensures .right (c .if2 .taken))
+returns-2 c =
+    let at-else1 : tie.Else1 = search in
+    let at-start : tie.Start = search in
+    trails-past (at-start .args .clients .now) (at-start .args .ends .now) (at-start .args .j) (at-start .args .c) (at-start .args .e) (at-else1 .if1 .left) (c .before .precedes .ensures .right (c .if2 .taken))
 
 returns-3 : tie.Need-returns-3
-returns-3 c = trails-not (c .before .before .before .before .before .before .before .args .clients .now) (c .before .before .before .before .before .before .before .args .ends .now) (c .before .before .before .before .before .before .before .args .j) (c .before .before .before .before .before .before .before .args .c) (c .before .before .before .before .before .before .before .args .e) (c .before .before .before .before .if1 .left) (c .before .precedes .ensures .wrong (c .if2 .left))
+returns-3 c =
+    let at-else1 : tie.Else1 = search in
+    let at-start : tie.Start = search in
+    trails-not (at-start .args .clients .now) (at-start .args .ends .now) (at-start .args .j) (at-start .args .c) (at-start .args .e) (at-else1 .if1 .left) (c .before .precedes .ensures .wrong (c .if2 .left))
 
 pub trail-spec : {M : Type 1} → statement M
 trail-spec =

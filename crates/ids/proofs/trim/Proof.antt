@@ -61,10 +61,14 @@ same-length-3 : tie.Need-same-length-3
 same-length-3 c = search needs
 
 returns : tie.Need-returns
-returns c = let a = c .before .before .before .before .before .before .before .before .before .before .before .before .before .before .before .args in
-    filled-columns (a .k) (a .to-clients .now) (a .to-starts .now) (a .to-ends .now) (a .to-clients .now) (a .to-starts .now) (a .to-ends .now) _ _ _ (fit _ _ _ _ (c .before .before .before .before .before .before .before .before .before .before .before .before .before .before .before .pre))
-    (tail-zeroed (a .k) (a .to-clients .now) _ (omega arith) (c .before .before .before .before .before .before .before .before .before .before .zero-wide .ensures))
-    (tail-zeroed (a .k) (a .to-starts .now) _ (omega arith) (c .before .before .before .before .before .before .zero .ensures))
+returns c =
+    let at-zero : tie.After-zero = search in
+    let at-zero-wide : tie.After-zero-wide = search in
+    let at-start : tie.Start = search in
+    let a = at-start .args in
+    filled-columns (a .k) (a .to-clients .now) (a .to-starts .now) (a .to-ends .now) (a .to-clients .now) (a .to-starts .now) (a .to-ends .now) _ _ _ (fit _ _ _ _ (at-start .pre))
+    (tail-zeroed (a .k) (a .to-clients .now) _ (omega arith) (at-zero-wide .zero-wide .ensures))
+    (tail-zeroed (a .k) (a .to-starts .now) _ (omega arith) (at-zero .zero .ensures))
     (tail-zeroed (a .k) (a .to-ends .now) _ (omega arith) (c .before .before .zero2 .ensures))
 
 pub trim-spec : {M : Type 1} → statement M

@@ -20,30 +20,48 @@ loop-holds : tie.Need-loop-holds Inv-loop μ-loop
 loop-holds c = (refl, refl, refl, merging-none _ _ _ _ _ _ _ _ _ _ _ _)
 
 add-loop : tie.Need-add-loop Inv-loop μ-loop
-add-loop c = omega (arith, c .before .before .before .before .before .before .before .before .before .before .pre .0 .few, c .before .before .before .before .before .before .before .before .before .before .pre .1 .0 .few, c .loop .inv .3 .united .one .within, c .loop .inv .3 .united .two .within)
+add-loop c =
+    let at-start : tie.Start Inv-loop μ-loop = search in
+    omega (arith, at-start .pre .0 .few, at-start .pre .1 .0 .few, c .loop .inv .3 .united .one .within, c .loop .inv .3 .united .two .within)
 
 add-loop-2 : tie.Need-add-loop-2 Inv-loop μ-loop
-add-loop-2 c = omega (arith, c .before .before .before .before .before .before .before .before .before .before .pre .0 .few, c .before .before .before .before .before .before .before .before .before .before .pre .1 .0 .few)
+add-loop-2 c =
+    let at-start : tie.Start Inv-loop μ-loop = search in
+    omega (arith, at-start .pre .0 .few, at-start .pre .1 .0 .few)
 
 next-requires : tie.Need-next-requires Inv-loop μ-loop
-next-requires c κs = ((c .before .before .before .before .before .before .before .before .before .before .before .pre .0 .few, c .before .before .before .before .before .before .before .before .before .before .before .pre .1 .0 .few), (c .before .loop .inv .3 .united .one .within, c .before .loop .inv .3 .united .two .within, c .loop-test .taken))
+next-requires c κs =
+    let at-start : tie.Start Inv-loop μ-loop = search in
+    ((at-start .pre .0 .few, at-start .pre .1 .0 .few), (c .before .loop .inv .3 .united .one .within, c .before .loop .inv .3 .united .two .within, c .loop-test .taken))
 
 join-requires : tie.Need-join-requires Inv-loop μ-loop
-join-requires c κs = (
-  omega (arith, c .before .before .before .before .before .loop .inv .0, c .before .before .before .before .before .loop .inv .1, c .before .before .before .before .before .loop .inv .2, c .before .before .before .before .before .before .before .before .before .before .before .before .before .before .before .pre .1 .1),
-  (c .before .before .before .before .before .loop .inv .3 .opens, later _ _ _ _ (c .before .before .before .before .before .before .before .before .before .before .before .before .before .before .shared-slice-known .given) (c .before .before .before .before .before .before .before .before .before .before .before .before .before .shared-slice-known2 .given) (c .before .before .before .before .before .before .before .before .before .before .before .before .shared-slice-known3 .given) _ (c .before .before .before .before .before .before .before .before .before .before .before .before .before .before .before .pre .0) _ _ _ (c .before .before .before .before .before .before .before .before .before .before .before .shared-slice-known4 .given) (c .before .before .before .before .before .before .before .before .before .before .shared-slice-known5 .given) (c .before .before .before .before .before .before .before .before .before .shared-slice-known6 .given) _ (c .before .before .before .before .before .before .before .before .before .before .before .before .before .before .before .pre .1 .0) _ _ _ _ _ _ _ _ _ (c .before .before .before .next .ensures) (c .before .before .before .before .before .loop .inv .3)),
-)
+join-requires c κs =
+    let at-next : tie.After-next Inv-loop μ-loop = search in
+    let at-known6 : tie.After-shared-slice-known6 Inv-loop μ-loop = search in
+    let at-known3 : tie.After-shared-slice-known3 Inv-loop μ-loop = search in
+    let at-start : tie.Start Inv-loop μ-loop = search in (
+      omega (arith, at-next .before .before .loop .inv .0, at-next .before .before .loop .inv .1, at-next .before .before .loop .inv .2, at-start .pre .1 .1),
+      (at-next .before .before .loop .inv .3 .opens, later (at-start .pre .0) (at-start .pre .1 .0) (at-next .next .ensures) (at-next .before .before .loop .inv .3)),
+    )
 
 loop-less : tie.Need-loop-less Inv-loop μ-loop
-loop-less c = omega (arith, moved (c .before .before .before .before .before .before .before .before .before .before .next .ensures), c .before .before .before .before .before .before .before .before .before .before .before .loop-test .taken)
+loop-less c =
+    let at-next : tie.After-next Inv-loop μ-loop = search in
+    omega (arith, moved (at-next .next .ensures), at-next .before .loop-test .taken)
 
 loop-again : tie.Need-loop-again Inv-loop μ-loop
-loop-again c = (
-  c .before .before .before .before .before .before .join .kept .0 ∙ c .before .before .before .before .before .before .before .before .before .before .before .before .loop .inv .0,
-  c .before .before .before .before .before .before .join .kept .1 .0 ∙ c .before .before .before .before .before .before .before .before .before .before .before .before .loop .inv .1,
-  c .before .before .before .before .before .before .join .kept .1 .1 .0 ∙ c .before .before .before .before .before .before .before .before .before .before .before .before .loop .inv .2,
-  merging-more _ _ _ _ (c .before .before .before .before .before .before .before .before .before .before .before .before .before .before .before .before .before .before .before .before .before .shared-slice-known .given) (c .before .before .before .before .before .before .before .before .before .before .before .before .before .before .before .before .before .before .before .before .shared-slice-known2 .given) (c .before .before .before .before .before .before .before .before .before .before .before .before .before .before .before .before .before .before .before .shared-slice-known3 .given) _ (c .before .before .before .before .before .before .before .before .before .before .before .before .before .before .before .before .before .before .before .before .before .before .pre .0) _ _ _ (c .before .before .before .before .before .before .before .before .before .before .before .before .before .before .before .before .before .before .shared-slice-known4 .given) (c .before .before .before .before .before .before .before .before .before .before .before .before .before .before .before .before .before .shared-slice-known5 .given) (c .before .before .before .before .before .before .before .before .before .before .before .before .before .before .before .before .shared-slice-known6 .given) _ (c .before .before .before .before .before .before .before .before .before .before .before .before .before .before .before .before .before .before .before .before .before .before .pre .1 .0) _ _ _ _ _ _ _ _ _ _ _ _ _ (c .before .before .before .before .before .before .before .before .before .before .next .ensures) (c .before .before .before .before .before .before .before .before .before .before .before .before .loop .inv .3) (c .before .before .before .before .before .before .join .ensures),
-)
+loop-again c =
+    let at-join : tie.After-join Inv-loop μ-loop = search in
+    let at-next : tie.After-next Inv-loop μ-loop = search in
+    let at-known6 : tie.After-shared-slice-known6 Inv-loop μ-loop = search in
+    let at-known3 : tie.After-shared-slice-known3 Inv-loop μ-loop = search in
+    let at-start : tie.Start Inv-loop μ-loop = search in (
+      at-join .join .kept .0 ∙ at-next .before .before .loop .inv .0,
+      at-join .join .kept .1 .0 ∙ at-next .before .before .loop .inv .1,
+      at-join .join .kept .1 .1 .0 ∙ at-next .before .before .loop .inv .2,
+      merging-more (at-start .pre .0) (at-start .pre .1 .0) (at-known3 .before .before .shared-slice-known .given) (at-known3 .before .shared-slice-known2 .given) (at-known3 .shared-slice-known3 .given)
+          (at-known6 .before .before .shared-slice-known4 .given) (at-known6 .before .shared-slice-known5 .given) (at-known6 .shared-slice-known6 .given) (at-next .next .ensures) (at-next .before .before .loop .inv .3) (at-join .join .ensures),
+    )
 
 same-length : tie.Need-same-length Inv-loop μ-loop
 same-length c = c .before .loop .inv .0

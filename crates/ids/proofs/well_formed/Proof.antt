@@ -18,7 +18,10 @@ apart-requires : tie.Need-apart-requires
 apart-requires c κs = search needs
 
 returns-2 : tie.Need-returns-2
-returns-2 c = checked (c .before .before .before .before .before .before .before .args .clients .now) (c .before .before .before .before .before .before .before .args .starts .now) (c .before .before .before .before .before .before .before .args .ends .now) (c .before .before .before .before .before .shared-slice-known2 .given) (c .before .before .before .before .shared-slice-known3 .given) _ _ _ (omega arith) (c .before .none-empty .ensures) (c .apart .ensures)
+returns-2 c =
+    let at-known3 : tie.After-shared-slice-known3 = search in
+    let at-start : tie.Start = search in
+    checked (at-start .args .clients .now) (at-start .args .starts .now) (at-start .args .ends .now) (at-known3 .before .shared-slice-known2 .given) (at-known3 .shared-slice-known3 .given) _ _ _ (omega arith) (c .before .none-empty .ensures) (c .apart .ensures)
 
 pub well-formed-spec : {M : Type 1} → statement M
 well-formed-spec =

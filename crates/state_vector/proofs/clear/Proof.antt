@@ -12,4 +12,4 @@ clear-spec =
     (λ c κs. search needs)
     (λ c. search needs)
     (λ c. search needs)
-    (λ c. let a = c .before .before .before .before .before .before .before .before .before .before .args in cleared (a .to-clients .now) (a .to-clocks .now) _ _ (c .before .before .before .before .before .before .zero-wide .ensures) (c .before .before .zero .ensures)))
+    (λ c. search cleared))

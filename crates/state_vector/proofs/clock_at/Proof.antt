@@ -13,6 +13,13 @@ clock-at-spec =
     (λ c κs. (omega (arith, c .before .before .pre .few), table-climbs (c .before .before .pre)))
     (λ c κs. search needs)
     (λ c. search needs)
-    (λ c. omega (arith, c .before .before .stands .ensures .right (c .before .if1 .taken) .within, c .before .before .before .before .before .before .pre .few))
-    (λ c. clock-here (c .before .before .before .before .before .before .pre) (c .before .before .before .find .ensures) (c .before .before .stands .ensures .right (c .before .if1 .taken)))
-    (λ c. clock-none (c .before .before .before .before .before .pre) (c .before .before .find .ensures) (c .before .stands .ensures .wrong (c .if1 .left))))
+    (λ c.
+    let at-start : tie.Start = search in
+    omega (arith, c .before .before .stands .ensures .right (c .before .if1 .taken) .within, at-start .pre .few))
+    (λ c.
+    let at-find : tie.After-find = search in
+    let at-start : tie.Start = search in
+    clock-here (at-start .pre) (at-find .find .ensures) (c .before .before .stands .ensures .right (c .before .if1 .taken)))
+    (λ c.
+    let at-start : tie.Start = search in
+    clock-none (at-start .pre) (c .before .before .find .ensures) (c .before .stands .ensures .wrong (c .if1 .left))))

@@ -20,28 +20,51 @@ cmp-rows-spec =
     Inv-loop
     μ-loop
     (λ c κs. search needs)
-    (λ c κs. (omega (arith, c .before .before .before .before .before .pre .0 .few), omega (arith, c .before .before .before .before .before .pre .1 .few)))
-    (λ c κs. (omega (arith, c .before .before .before .before .before .before .pre .0 .few), omega (arith, c .before .before .before .before .before .before .pre .1 .few)))
-    (λ c κs. (omega (arith, c .before .before .before .before .before .before .before .pre .1 .few), omega (arith, c .before .before .before .before .before .before .before .pre .0 .few)))
-    (λ c. let p = c .before .before .before .before .before .before .before .before .pre in rw (c .before .any-less .ensures, c .any-less2 .ensures) (comparing-front (p .0) (p .1) (omega arith) (omega arith) (c .before .before .same-front .ensures .1) _ (omega arith)))
+    (λ c κs.
+    let at-start : tie.Start Inv-loop μ-loop = search in
+    (omega (arith, at-start .pre .0 .few), omega (arith, at-start .pre .1 .few)))
+    (λ c κs.
+    let at-start : tie.Start Inv-loop μ-loop = search in
+    (omega (arith, at-start .pre .0 .few), omega (arith, at-start .pre .1 .few)))
+    (λ c κs.
+    let at-start : tie.Start Inv-loop μ-loop = search in
+    (omega (arith, at-start .pre .1 .few), omega (arith, at-start .pre .0 .few)))
+    (λ c.
+    let at-start : tie.Start Inv-loop μ-loop = search in
+    let p = at-start .pre in
+    rw (c .before .any-less .ensures, c .any-less2 .ensures) (comparing-front (p .0) (p .1) (omega arith) (omega arith) (c .before .before .same-front .ensures .1) _ (omega arith)))
     (λ c κs. (c .before .before .loop .inv .li, omega (arith, c .before .before .loop .inv .ta .few)))
     (λ c κs. search needs)
-    (λ c. rw (c .verdict .ensures) (comparing-left (c .before .before .before .before .loop .inv) (c .before .before .if1 .taken) (c .before .any .ensures)))
+    (λ c.
+    let at-loop : tie.At-loop Inv-loop μ-loop = search in
+    rw (c .verdict .ensures) (comparing-left (at-loop .loop .inv) (c .before .before .if1 .taken) (c .before .any .ensures)))
     (λ c. search needs)
-    (λ c. omega (arith, c .before .before .before .loop .inv .ta .few))
+    (λ c.
+    let at-loop : tie.At-loop Inv-loop μ-loop = search in
+    omega (arith, at-loop .loop .inv .ta .few))
     (λ c. search needs)
-    (λ c. omega (arith, c .before .before .before .before .loop .inv .tb .few))
+    (λ c.
+    let at-loop : tie.At-loop Inv-loop μ-loop = search in
+    omega (arith, at-loop .loop .inv .tb .few))
     (λ c. search needs)
     (λ c. search needs)
     (λ c. search needs)
-    (λ c. omega (arith, c .before .before .before .before .before .before .loop .inv .tb .few))
+    (λ c.
+    let at-loop : tie.At-loop Inv-loop μ-loop = search in
+    omega (arith, at-loop .loop .inv .tb .few))
     (λ c κs. search needs)
     (λ c κs. search needs)
     (λ c κs. search needs)
-    (λ c κs. omega (arith, c .before .before .before .before .before .before .before .before .before .loop .inv .ta .few))
-    (λ c κs. omega (arith, c .before .before .before .before .before .before .before .before .before .before .loop .inv .tb .few))
-    (λ c. step-less (c .before .before .before .before .before .before .before .before .before .before .loop-test .taken) (c .before .before .before .before .before .before .before .before .before .if1 .left) (c .before .before .lower .ensures) (c .before .passed .ensures) (c .passed2 .ensures))
-    (λ c. comparing-next (c .before .before .before .before .before .before .before .before .before .before .before .loop .inv) (c .before .before .before .before .before .before .before .before .before .before .loop-test .taken) (c .before .before .before .before .before .before .before .before .before .if1 .left) (c .before .before .before .before .under .ensures) (c .before .before .before .under2 .ensures) (c .before .before .lower .ensures) (c .before .passed .ensures) (c .passed2 .ensures))
+    (λ c κs.
+    let at-loop : tie.At-loop Inv-loop μ-loop = search in
+    omega (arith, at-loop .loop .inv .ta .few))
+    (λ c κs.
+    let at-loop : tie.At-loop Inv-loop μ-loop = search in
+    omega (arith, at-loop .loop .inv .tb .few))
+    (λ c. search step-less)
+    (λ c. search comparing-next)
     (λ c κs. (c .before .loop .inv .lj, omega (arith, c .before .loop .inv .tb .few)))
     (λ c κs. search needs)
-    (λ c. rw (c .verdict2 .ensures) (comparing-right (c .before .before .before .loop .inv) (c .before .before .loop-test .left) (c .before .any2 .ensures))))
+    (λ c.
+    let at-loop : tie.At-loop Inv-loop μ-loop = search in
+    rw (c .verdict2 .ensures) (comparing-right (at-loop .loop .inv) (c .before .before .loop-test .left) (c .before .any2 .ensures))))

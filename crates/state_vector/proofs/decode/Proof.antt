@@ -17,7 +17,11 @@ decode-spec =
     (λ c κs. search needs)
     (λ c. search needs)
     (λ c. search needs)
-    (λ c. decodes-none (c .before .before .before .before .before .before .before .before .before .before .before .before .before .before .args .bytes .now) (c .before .before .before .before .before .before .before .before .before .before .before .before .before .before .args .at) (two (c .before .before .before .before .before .before .before .before .before .before .before .before .before .before .args .to-clients .now) (c .before .before .before .before .before .before .before .before .before .before .before .before .before .before .args .to-clocks .now)) (c .before .before .before .before .before .before .before .before .enum-told .given .1) (c .why-u32 .ensures) (c .before .before .before .before .before .before .before .before .before .before .read-u32 .ensures) (c .before .before .before .before .before .clear .ensures))
+    (λ c.
+    let at-clear : tie.After-clear = search in
+    let at-enum-told : tie.After-enum-told = search in
+    let at-start : tie.Start = search in
+    decodes-none (at-start .args .bytes .now) (at-start .args .at) (two (at-start .args .to-clients .now) (at-start .args .to-clocks .now)) (at-enum-told .enum-told .given .1) (c .why-u32 .ensures) (at-enum-told .before .before .read-u32 .ensures) (at-clear .clear .ensures))
     (λ c κs. search needs)
     (λ c κs. c .before .before .most-rows .ensures)
     (λ c. search needs)
@@ -25,8 +29,25 @@ decode-spec =
     (λ c κs. search needs)
     (λ c. search needs)
     (λ c. search needs)
-    (λ c. decodes-stopped (c .before .before .before .before .before .before .before .before .before .before .before .before .before .before .before .before .before .before .before .before .before .before .before .before .args .bytes .now) (c .before .before .before .before .before .before .before .before .before .before .before .before .before .before .before .before .before .before .before .before .before .before .before .before .args .at) (two (c .before .before .before .before .before .before .before .before .before .before .before .before .before .before .before .before .before .before .before .before .before .before .before .before .args .to-clients .now) (c .before .before .before .before .before .before .before .before .before .before .before .before .before .before .before .before .before .before .before .before .before .before .before .before .args .to-clocks .now)) _ (c .before .before .before .before .before .before .before .before .before .before .before .before .before .before .before .before .most-rows .ensures) (c .before .before .before .before .before .before .before .before .before .before .before .before .before .before .before .before .before .before .first .given .1) (c .before .before .before .before .before .before .before .before .before .before .before .before .before .before .before .before .before .before .before .before .read-u32 .ensures) (c .before .before .before .before .before .before .before .before .before .before .before .before .before .decode-pairs .ensures) (c .before .before .before .before .before .before .before .enum-told2 .given .1) (c .before .before .before .before .before .before .before .before .before .before .before .before .before .decode-pairs .kept .1 .1 .1 .0) (c .before .before .before .before .before .before .before .before .before .before .before .before .before .decode-pairs .kept .1 .1 .1 .1 .0) (c .before .before .before .before .clear2 .ensures))
-    (λ c κs. decoded-fits _ (c .before .before .before .before .before .before .before .before .before .decode-pairs .ensures) (c .before .before .before .got .given .1) (omega arith))
+    (λ c.
+    let at-clear2 : tie.After-clear2 = search in
+    let at-enum-told2 : tie.After-enum-told2 = search in
+    let at-decode-pairs : tie.After-decode-pairs = search in
+    let at-most-rows : tie.After-most-rows = search in
+    let at-read-u32 : tie.After-read-u32 = search in
+    let at-start : tie.Start = search in
+    decodes-stopped (at-start .args .bytes .now) (at-start .args .at) (two (at-start .args .to-clients .now) (at-start .args .to-clocks .now)) _ (at-most-rows .most-rows .ensures) (at-most-rows .before .before .first .given .1) (at-read-u32 .read-u32 .ensures) (at-decode-pairs .decode-pairs .ensures) (at-enum-told2 .enum-told2 .given .1) (at-decode-pairs .decode-pairs .kept .1 .1 .1 .0) (at-decode-pairs .decode-pairs .kept .1 .1 .1 .1 .0) (at-clear2 .clear2 .ensures))
+    (λ c κs.
+    let at-got : tie.After-got = search in
+    let at-decode-pairs : tie.After-decode-pairs = search in
+    decoded-fits _ (at-decode-pairs .decode-pairs .ensures) (at-got .got .given .1) (omega arith))
     (λ c. search needs)
     (λ c. search needs)
-    (λ c. decodes-all (c .before .before .before .before .before .before .before .before .before .before .before .before .before .before .before .before .before .before .before .before .before .before .before .before .before .args .bytes .now) (c .before .before .before .before .before .before .before .before .before .before .before .before .before .before .before .before .before .before .before .before .before .before .before .before .before .args .at) (two (c .before .before .before .before .before .before .before .before .before .before .before .before .before .before .before .before .before .before .before .before .before .before .before .before .before .args .to-clients .now) (c .before .before .before .before .before .before .before .before .before .before .before .before .before .before .before .before .before .before .before .before .before .before .before .before .before .args .to-clocks .now)) _ (c .before .before .before .before .before .before .before .before .before .before .before .before .before .before .before .before .before .most-rows .ensures) (c .before .before .before .before .before .before .before .before .before .before .before .before .before .before .before .before .before .before .before .first .given .1) (c .before .before .before .before .before .before .before .before .before .before .before .before .before .before .before .before .before .before .before .before .before .read-u32 .ensures) (c .before .before .before .before .before .before .before .before .before .before .before .before .before .before .decode-pairs .ensures) (c .before .before .before .before .before .before .before .before .got .given .1) (c .before .before .before .before .before .before .before .before .before .before .before .before .before .before .decode-pairs .kept .1 .1 .1 .0) (c .before .before .before .before .before .before .before .before .before .before .before .before .before .before .decode-pairs .kept .1 .1 .1 .1 .0) (c .before .before .before .before .zero-rest .ensures)))
+    (λ c.
+    let at-zero-rest : tie.After-zero-rest = search in
+    let at-got : tie.After-got = search in
+    let at-decode-pairs : tie.After-decode-pairs = search in
+    let at-most-rows : tie.After-most-rows = search in
+    let at-read-u32 : tie.After-read-u32 = search in
+    let at-start : tie.Start = search in
+    decodes-all (at-start .args .bytes .now) (at-start .args .at) (two (at-start .args .to-clients .now) (at-start .args .to-clocks .now)) _ (at-most-rows .most-rows .ensures) (at-most-rows .before .before .first .given .1) (at-read-u32 .read-u32 .ensures) (at-decode-pairs .decode-pairs .ensures) (at-got .got .given .1) (at-decode-pairs .decode-pairs .kept .1 .1 .1 .0) (at-decode-pairs .decode-pairs .kept .1 .1 .1 .1 .0) (at-zero-rest .zero-rest .ensures)))

@@ -1,11 +1,14 @@
 -- `state_vector::merge` meets its contract. Assumes nothing.
 use native.Mathlib.Omega.{arith}
-use borrow.Author.Tests.{not-true, not-false}
 use Rattle.state_vector.specs.Vectors.{two}
-use Rattle.state_vector.proofs.Storing.{refused, gives-closed}
+use Rattle.state_vector.proofs.Storing.{gives-closed}
+use Rattle.state_vector.proofs.Answering.{formed, refused-left, refused-right}
 use borrow.Author.Needs.{needs}
 use Rattle.state_vector.proofs.merge.Statement.{statement}
 use Rattle.state_vector.proofs.merge.Tie as tie
+
+abbrev start : tie.After-most-rows → tie.Start
+start c = search
 
 pub merge-spec : {M : Type 1} → statement M
 merge-spec =
@@ -15,15 +18,33 @@ merge-spec =
     (λ c κs. search needs)
     (λ c. search needs)
     (λ c. search needs)
-    (λ c. refused (two (c .before .before .before .before .before .before .before .before .before .before .before .before .before .before .before .args .to-clients .now) (c .before .before .before .before .before .before .before .before .before .before .before .before .before .before .before .args .to-clocks .now)) (λ w. c .before .before .before .before .before .before .before .before .well-formed .ensures .wrong (not-true _ (c .before .before .before .before .before .before .before .if1 .taken)) (w .0)) (c .before .before .before .before .clear .ensures))
+    (λ c.
+    let e : tie.After-clear = search in
+    let t : tie.Then1 = search in
+    let s : tie.Start = search in
+    refused-left (two (s .args .to-clients .now) (s .args .to-clocks .now)) (t .before .well-formed .ensures) (t .if1 .taken) (e .clear .ensures))
     (λ c κs. search needs)
     (λ c κs. search needs)
     (λ c. search needs)
     (λ c. search needs)
-    (λ c. refused (two (c .before .before .before .before .before .before .before .before .before .before .before .before .before .before .before .before .before .args .to-clients .now) (c .before .before .before .before .before .before .before .before .before .before .before .before .before .before .before .before .before .args .to-clocks .now)) (λ w. c .before .before .before .before .before .before .before .before .well-formed2 .ensures .wrong (not-true _ (c .before .before .before .before .before .before .before .if2 .taken)) (w .1)) (c .before .before .before .before .clear2 .ensures))
+    (λ c.
+    let e : tie.After-clear2 = search in
+    let t : tie.Then2 = search in
+    let s : tie.Start = search in
+    refused-right (two (s .args .to-clients .now) (s .args .to-clocks .now)) (t .before .well-formed2 .ensures) (t .if2 .taken) (e .clear2 .ensures))
     (λ c κs. search needs)
-    (λ c κs. (c .before .before .before .before .before .before .well-formed .ensures .right (not-false _ (c .before .before .before .before .before .if1 .left)), (c .before .before .before .before .well-formed2 .ensures .right (not-false _ (c .before .before .before .if2 .left)), omega arith)))
+    (λ c κs.
+    let y : tie.Else2 = search in
+    let x : tie.Else1 = search in
+    (formed (x .before .well-formed .ensures) (x .if1 .left), (formed (y .before .well-formed2 .ensures) (y .if2 .left), omega arith)))
     (λ c κs. search needs)
     (λ c. search needs)
     (λ c. search needs)
-    (λ c. gives-closed (two (c .before .before .before .before .before .before .before .before .before .before .before .before .before .before .before .before .before .before .before .before .before .before .before .before .before .args .to-clients .now) (c .before .before .before .before .before .before .before .before .before .before .before .before .before .before .before .before .before .before .before .before .before .before .before .before .before .args .to-clocks .now)) (c .before .before .before .before .before .before .before .before .before .before .before .before .before .before .most-rows .ensures) (c .before .before .before .before .before .before .before .before .before .before .before .before .before .before .before .before .before .before .well-formed .ensures .right (not-false _ (c .before .before .before .before .before .before .before .before .before .before .before .before .before .before .before .before .before .if1 .left)), c .before .before .before .before .before .before .before .before .before .before .before .before .before .before .before .before .well-formed2 .ensures .right (not-false _ (c .before .before .before .before .before .before .before .before .before .before .before .before .before .before .before .if2 .left))) (c .before .before .before .before .before .before .before .before .before .before .before .merge-rows .ensures .right) (omega arith) (omega arith) (c .before .before .before .before .before .before .before .before .before .before .before .merge-rows .ensures .holds) (c .before .before .before .before .close .ensures)))
+    (λ c.
+    let e : tie.After-close = search in
+    let m : tie.After-merge-rows = search in
+    let r : tie.After-most-rows = search in
+    let y : tie.Else2 = search in
+    let x : tie.Else1 = search in
+    let a = start r .args in
+    gives-closed (two (a .to-clients .now) (a .to-clocks .now)) (r .most-rows .ensures) (formed (x .before .well-formed .ensures) (x .if1 .left), formed (y .before .well-formed2 .ensures) (y .if2 .left)) (m .merge-rows .ensures .right) (omega (arith, m .merge-rows .kept)) (omega (arith, m .merge-rows .kept)) (m .merge-rows .ensures .holds) (e .close .ensures)))

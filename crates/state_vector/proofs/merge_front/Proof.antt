@@ -12,10 +12,25 @@ merge-front-spec =
     tie.close
     (tie.spec
     (λ c κs. search needs)
-    (λ c κs. (omega (arith, c .before .before .before .before .before .before .before .pre .0 .few), omega (arith, c .before .before .before .before .before .before .before .pre .1 .0 .few)))
+    (λ c κs.
+    let at-start : tie.Start = search in
+    (omega (arith, at-start .pre .0 .few), omega (arith, at-start .pre .1 .0 .few)))
     (λ c κs. search needs)
-    (λ c κs. let a = c .before .before .before .before .before .before .before .before .before .before .args in let p = c .before .before .before .before .before .before .before .before .before .before .pre in let f = front-within (c .before .lesser2 .ensures) (c .before .before .same-front .ensures .0) (c .before .before .before .lesser .ensures) in (table-within (p .0) (f .0) .0, room-within (two (a .to-clients .now) (a .to-clocks .now)) (p .1 .1) (f .2) .0))
-    (λ c κs. let a = c .before .before .before .before .before .before .before .before .before .before .before .before .before .before .args in let p = c .before .before .before .before .before .before .before .before .before .before .before .before .before .before .pre in let f = front-within (c .before .before .before .before .before .lesser2 .ensures) (c .before .before .before .before .before .before .same-front .ensures .0) (c .before .before .before .before .before .before .before .lesser .ensures) in (table-within (p .0) (f .0) .1, table-within (p .1 .0) (f .1) .1, room-within (two (a .to-clients .now) (a .to-clocks .now)) (p .1 .1) (f .2) .1))
+    (λ c κs.
+    let at-lesser : tie.After-lesser = search in
+    let at-start : tie.Start = search in
+    let a = at-start .args in
+    let p = at-start .pre in
+    let f = front-within (c .before .lesser2 .ensures) (c .before .before .same-front .ensures .0) (at-lesser .lesser .ensures) in (table-within (p .0) (f .0) .0, room-within (two (a .to-clients .now) (a .to-clocks .now)) (p .1 .1) (f .2) .0))
+    (λ c κs.
+    let at-lesser2 : tie.After-lesser2 = search in
+    let at-start : tie.Start = search in
+    let a = at-start .args in
+    let p = at-start .pre in
+    let f = front-within (at-lesser2 .lesser2 .ensures) (at-lesser2 .before .same-front .ensures .0) (at-lesser2 .before .before .lesser .ensures) in (table-within (p .0) (f .0) .1, table-within (p .1 .0) (f .1) .1, room-within (two (a .to-clients .now) (a .to-clocks .now)) (p .1 .1) (f .2) .1))
     (λ c. search needs)
     (λ c. search needs)
-    (λ c. let f = front-within (c .before .before .before .before .before .before .before .before .lesser2 .ensures) (c .before .before .before .before .before .before .before .before .before .same-front .ensures .0) (c .before .before .before .before .before .before .before .before .before .before .lesser .ensures) in record { left = f .0; right = f .1; fits = f .2; same = firsts-all (c .before .before .before .before .before .before .before .before .before .same-front .ensures .1) (f .3); clients = c .before .before .before .before .before .before .copy-wide .ensures; clocks = c .before .before .larger-front .ensures }))
+    (λ c.
+    let at-copy-wide : tie.After-copy-wide = search in
+    let at-same-front : tie.After-same-front = search in
+    let f = front-within (at-copy-wide .before .before .lesser2 .ensures) (at-same-front .same-front .ensures .0) (at-same-front .before .lesser .ensures) in record { left = f .0; right = f .1; fits = f .2; same = firsts-all (at-same-front .same-front .ensures .1) (f .3); clients = at-copy-wide .copy-wide .ensures; clocks = c .before .before .larger-front .ensures }))

@@ -20,31 +20,74 @@ merge-rows-spec =
     (tie.spec
     Inv-loop
     μ-loop
-    (λ c κs. (c .before .before .before .before .before .before .before .before .pre .0, (c .before .before .before .before .before .before .before .before .pre .1 .0, c .before .before .before .before .before .before .before .before .pre .1 .1)))
-    (λ c. uniting-front (c .before .before .before .before .before .before .before .before .before .before .before .before .before .pre .0) (c .before .before .before .before .before .before .before .before .before .before .before .before .before .pre .1 .0) (omega (arith, c .before .before .before .before .before .before .before .before .before .before .before .before .before .pre .1 .1, c .before .before .before .before .merge-front .kept .1 .1 .1 .1 .1 .1 .0, c .before .before .before .before .merge-front .kept .1 .1 .1 .1 .1 .1 .1 .0)) refl refl (c .before .before .before .before .merge-front .ensures) _ (omega arith))
-    (λ c κs. let s = c .before .before .before .before .loop .inv in (s .ta, (omega (arith, s .fit, s .clients, s .clocks), s .li, omega (arith, s .few, s .li, s .lj, s .ta .few, s .tb .few))))
+    (λ c κs.
+    let at-start : tie.Start Inv-loop μ-loop = search in
+    (at-start .pre .0, (at-start .pre .1 .0, at-start .pre .1 .1)))
+    (λ c.
+    let at-merge-front : tie.After-merge-front Inv-loop μ-loop = search in
+    let at-start : tie.Start Inv-loop μ-loop = search in
+    uniting-front (at-start .pre .0) (at-start .pre .1 .0) (omega (arith, at-start .pre .1 .1, at-merge-front .merge-front .kept .1 .1 .1 .1 .1 .1 .0, at-merge-front .merge-front .kept .1 .1 .1 .1 .1 .1 .1 .0)) refl refl (at-merge-front .merge-front .ensures) _ (omega arith))
+    (λ c κs.
+    let at-loop : tie.At-loop Inv-loop μ-loop = search in
+    let s = at-loop .loop .inv in
+    (s .ta, (omega (arith, s .fit, s .clients, s .clocks), s .li, omega (arith, s .few, s .li, s .lj, s .ta .few, s .tb .few))))
     (λ c. search needs)
     (λ c. search needs)
-    (λ c. united-left (c .before .before .before .before .before .before .before .before .before .loop .inv) (c .before .before .before .before .before .before .before .if1 .taken) (c .before .before .before .before .rest .ensures))
+    (λ c.
+    let at-rest : tie.After-rest Inv-loop μ-loop = search in
+    let at-then1 : tie.Then1 Inv-loop μ-loop = search in
+    united-left (at-then1 .before .before .loop .inv) (at-then1 .if1 .taken) (at-rest .rest .ensures))
     (λ c. search needs)
-    (λ c. omega (arith, c .before .before .before .loop .inv .ta .few))
+    (λ c.
+    let at-loop : tie.At-loop Inv-loop μ-loop = search in
+    omega (arith, at-loop .loop .inv .ta .few))
     (λ c. search needs)
-    (λ c. omega (arith, c .before .before .before .before .loop .inv .tb .few))
+    (λ c.
+    let at-loop : tie.At-loop Inv-loop μ-loop = search in
+    omega (arith, at-loop .loop .inv .tb .few))
     (λ c κs. search needs)
     (λ c. search needs)
-    (λ c. omega (arith, c .before .before .before .before .before .before .loop .inv .ta .few))
+    (λ c.
+    let at-loop : tie.At-loop Inv-loop μ-loop = search in
+    omega (arith, at-loop .loop .inv .ta .few))
     (λ c κs. search needs)
     (λ c. search needs)
-    (λ c. omega (arith, c .before .before .before .before .before .before .before .before .loop .inv .tb .few))
+    (λ c.
+    let at-loop : tie.At-loop Inv-loop μ-loop = search in
+    omega (arith, at-loop .loop .inv .tb .few))
     (λ c κs. search needs)
     (λ c κs. search needs)
-    (λ c κs. let s = c .before .before .before .before .before .before .before .before .before .before .before .before .loop .inv in omega (arith, s .fit, s .clients, s .clocks))
-    (λ c κs. omega (arith, c .before .before .before .before .before .before .before .before .before .before .before .before .before .before .before .before .before .loop .inv .ta .few))
-    (λ c κs. omega (arith, c .before .before .before .before .before .before .before .before .before .before .before .before .before .before .before .before .before .before .loop .inv .tb .few))
-    (λ c. let s = c .before .before .before .before .before .before .before .before .before .before .before .before .before .before .before .before .before .before .before .loop .inv in omega (arith, s .few, s .li, s .lj, s .ta .few, s .tb .few))
-    (λ c. step-less (c .before .before .before .before .before .before .before .before .before .before .before .before .before .before .before .before .before .before .loop-test .taken) (c .before .before .before .before .before .before .before .before .before .before .before .before .before .before .before .before .before .if1 .left) (c .before .before .before .before .before .before .before .before .before .before .before .before .before .before .lower .ensures) (c .before .passed .ensures) (c .passed2 .ensures))
-    (λ c. uniting-more (c .before .before .before .before .before .before .before .before .before .before .before .before .before .before .before .before .before .before .before .loop .inv) (c .before .before .before .before .before .before .before .before .before .before .before .before .before .before .before .before .before .before .loop-test .taken) (c .before .before .before .before .before .before .before .before .before .before .before .before .before .before .before .before .before .if1 .left) (c .before .before .before .before .before .before .before .before .before .before .before .before .before .before .lower .ensures) (record { clock = c .before .before .before .before .before .before .before .before .before .before .before .before .counted .ensures; next = c .before .passed .ensures }) (record { clock = c .before .before .before .before .before .before .before .before .before .before .counted2 .ensures; next = c .passed2 .ensures }) (c .before .before .before .before .before .before .before .before .before .larger .ensures) (c .before .before .before .before .before .before .store .kept .0) (c .before .before .before .before .before .before .store .kept .1 .0) (c .before .before .before .before .before .before .store .ensures))
-    (λ c κs. let s = c .before .before .before .loop .inv in (s .tb, (omega (arith, s .fit, s .clients, s .clocks), s .lj, omega (arith, s .few, s .li, s .lj, s .ta .few, s .tb .few))))
+    (λ c κs.
+    let at-loop : tie.At-loop Inv-loop μ-loop = search in
+    let s = at-loop .loop .inv in
+    omega (arith, s .fit, s .clients, s .clocks))
+    (λ c κs.
+    let at-else1 : tie.Else1 Inv-loop μ-loop = search in
+    omega (arith, at-else1 .before .before .loop .inv .ta .few, at-else1 .before .loop-test .taken))
+    (λ c κs.
+    let at-else1 : tie.Else1 Inv-loop μ-loop = search in
+    omega (arith, at-else1 .before .before .loop .inv .tb .few, at-else1 .if1 .left))
+    (λ c.
+    let at-loop : tie.At-loop Inv-loop μ-loop = search in
+    let s = at-loop .loop .inv in
+    omega (arith, s .few, s .li, s .lj, s .ta .few, s .tb .few))
+    (λ c.
+    let at-lower : tie.After-lower Inv-loop μ-loop = search in
+    let at-else1 : tie.Else1 Inv-loop μ-loop = search in
+    step-less (at-else1 .before .loop-test .taken) (at-else1 .if1 .left) (at-lower .lower .ensures) (c .before .passed .ensures) (c .passed2 .ensures))
+    (λ c.
+    let at-store : tie.After-store Inv-loop μ-loop = search in
+    let at-larger : tie.After-larger Inv-loop μ-loop = search in
+    let at-counted : tie.After-counted Inv-loop μ-loop = search in
+    let at-else1 : tie.Else1 Inv-loop μ-loop = search in
+    uniting-more (at-else1 .before .before .loop .inv) (at-else1 .before .loop-test .taken) (at-else1 .if1 .left) (at-counted .before .before .lower .ensures) (record { clock = at-counted .counted .ensures; next = c .before .passed .ensures }) (record { clock = at-larger .before .counted2 .ensures; next = c .passed2 .ensures }) (at-larger .larger .ensures) (at-store .store .kept .0) (at-store .store .kept .1 .0) (at-store .store .ensures))
+    (λ c κs.
+    let at-loop : tie.At-loop Inv-loop μ-loop = search in
+    let s = at-loop .loop .inv in
+    (s .tb, (omega (arith, s .fit, s .clients, s .clocks), s .lj, omega (arith, s .few, s .li, s .lj, s .ta .few, s .tb .few))))
     (λ c. search needs)
     (λ c. search needs)
-    (λ c. united-right (c .before .before .before .before .before .before .before .before .loop .inv) (c .before .before .before .before .before .before .before .loop-test .left) (c .before .before .before .before .rest2 .ensures)))
+    (λ c.
+    let at-rest2 : tie.After-rest2 Inv-loop μ-loop = search in
+    let at-end : tie.After-loop Inv-loop μ-loop = search in
+    united-right (at-end .before .loop .inv) (at-end .loop-test .left) (at-rest2 .rest2 .ensures)))

@@ -10,16 +10,26 @@ pub put-row-spec : {M : Type 1} → statement M
 put-row-spec =
     tie.close
     (tie.spec
-    (λ c κs. (omega (arith, c .before .before .before .pre .1 .0, c .before .before .before .pre .1 .1), table-climbs (c .before .before .before .pre .0)))
+    (λ c κs.
+    let at-start : tie.Start = search in
+    (omega (arith, at-start .pre .1 .0, at-start .pre .1 .1), table-climbs (at-start .pre .0)))
     (λ c κs. search needs)
     (λ c. search needs)
-    (λ c. omega (arith, c .before .stands .ensures .right (c .if1 .taken) .within, c .before .before .before .before .before .before .before .pre .0 .few))
+    (λ c.
+    let at-start : tie.Start = search in
+    omega (arith, c .before .stands .ensures .right (c .if1 .taken) .within, at-start .pre .0 .few))
     (λ c. search needs)
     (λ c. search needs)
-    (λ c. put-over (c .before .before .before .before .before .before .before .pre .0) (c .before .before .before .place .ensures) _ _ (c .before .before .before .before .before .before .before .pre .1 .1) (c .before .stands .ensures .right (c .if1 .taken)))
+    (λ c.
+    let at-place : tie.After-place = search in
+    let at-start : tie.Start = search in
+    put-over (at-start .pre .0) (at-place .place .ensures) _ _ (at-start .pre .1 .1) (c .before .stands .ensures .right (c .if1 .taken)))
     (λ c. search needs)
     (λ c. search needs)
-    (λ c. put-counted (c .before .before .before .before .before .before .before .before .pre .0) (c .before .before .before .before .place .ensures) _ _ _ (c .before .before .stands .ensures .wrong (c .before .if1 .left)) (omega arith))
+    (λ c.
+    let at-place : tie.After-place = search in
+    let at-start : tie.Start = search in
+    put-counted (at-start .pre .0) (at-place .place .ensures) _ _ _ (c .before .before .stands .ensures .wrong (c .before .if1 .left)) (omega arith))
     (λ c κs. search needs)
     (λ c κs. search needs)
     (λ c. search needs)
@@ -29,4 +39,10 @@ put-row-spec =
     (λ c. search needs)
     (λ c. search needs)
     (λ c. search needs)
-    (λ c. let p = c .before .before .before .before .before .before .before .before .before .before .before .before .before .before .before .before .pre in put-opened (p .0) (c .before .before .before .before .before .before .before .before .before .before .before .before .place .ensures) _ _ _ _ (c .before .before .before .before .before .before .open-wide .kept .0) (c .before .before .«open» .kept .0) (p .1 .1) (omega arith) (c .before .before .before .before .before .before .before .before .before .before .stands .ensures .wrong (c .before .before .before .before .before .before .before .before .before .if1 .left)) (c .before .before .before .before .before .before .open-wide .ensures) (c .before .before .«open» .ensures)))
+    (λ c.
+    let at-open-wide : tie.After-open-wide = search in
+    let at-else1 : tie.Else1 = search in
+    let at-place : tie.After-place = search in
+    let at-start : tie.Start = search in
+    let p = at-start .pre in
+    put-opened (p .0) (at-place .place .ensures) _ _ _ _ (at-open-wide .open-wide .kept .0) (c .before .before .«open» .kept .0) (p .1 .1) (omega arith) (at-else1 .before .stands .ensures .wrong (at-else1 .if1 .left)) (at-open-wide .open-wide .ensures) (c .before .before .«open» .ensures)))

@@ -28,7 +28,10 @@ rest-spec =
     (λ c. search needs)
     (λ c. search needs)
     (λ c. search needs)
-    (λ c. resting-more _ (omega arith) (omega arith) (c .before .before .before .before .store .kept .0) (c .before .before .before .before .store .kept .1 .0) (c .before .before .before .before .store .ensures) (c .before .before .before .before .before .before .before .before .before .before .loop .inv))
+    (λ c.
+    let at-store : tie.After-store Inv-loop μ-loop = search in
+    let at-loop : tie.At-loop Inv-loop μ-loop = search in
+    resting-more _ (omega arith) (omega arith) (at-store .store .kept .0) (at-store .store .kept .1 .0) (at-store .store .ensures) (at-loop .loop .inv))
     (λ c. search needs)
     (λ c. search needs)
     (λ c. resting-all (omega arith) (c .before .loop .inv)))

@@ -16,11 +16,29 @@ set-spec =
     (λ c κs. search needs)
     (λ c. search needs)
     (λ c. search needs)
-    (λ c. let a = c .before .before .before .before .before .before .before .before .before .before .before .before .before .args in set-over (c .before .before .before .before .before .before .before .before .before .before .before .before .before .pre) (two (a .to-clients .now) (a .to-clocks .now)) _ _ _ _ (c .before .before .before .before .before .before .before .before .most-rows .ensures) (c .before .before .before .before .before .before .before .if1 .taken) (c .before .before .before .before .clear .ensures))
+    (λ c.
+    let at-clear : tie.After-clear = search in
+    let at-then1 : tie.Then1 = search in
+    let at-start : tie.Start = search in
+    let a = at-start .args in
+    set-over (at-start .pre) (two (a .to-clients .now) (a .to-clocks .now)) _ _ _ _ (at-then1 .before .most-rows .ensures) (at-then1 .if1 .taken) (at-clear .clear .ensures))
     (λ c κs. search needs)
     (λ c κs. search needs)
-    (λ c κs. (copied-table (c .before .before .before .before .before .before .before .before .before .before .before .before .before .before .before .before .pre) (c .before .before .before .before .before .before .before .before .copy-wide .ensures) (c .before .before .before .before .copy .ensures) (omega arith) (omega arith), (omega arith, omega arith)))
+    (λ c κs.
+    let at-copy : tie.After-copy = search in
+    let at-copy-wide : tie.After-copy-wide = search in
+    let at-start : tie.Start = search in
+    (copied-table (at-start .pre) (at-copy-wide .copy-wide .ensures) (at-copy .copy .ensures) (omega arith) (omega arith), (omega arith, omega arith)))
     (λ c κs. search needs)
     (λ c. search needs)
     (λ c. search needs)
-    (λ c. let a = c .before .before .before .before .before .before .before .before .before .before .before .before .before .before .before .before .before .before .before .before .before .before .before .before .before .before .before .before .args in let p = c .before .before .before .before .before .before .before .before .before .before .before .before .before .before .before .before .before .before .before .before .before .before .before .before .before .before .before .before .pre in gives-closed (two (a .to-clients .now) (a .to-clocks .now)) (c .before .before .before .before .before .before .before .before .before .before .before .before .before .before .before .before .before .before .before .before .before .before .before .most-rows .ensures) p (set-right _ _ _ (p .rising)) (omega arith) (omega arith) (rw (copied-rows p (c .before .before .before .before .before .before .before .before .before .before .before .before .before .before .before .before .before .before .before .before .copy-wide .ensures) (c .before .before .before .before .before .before .before .before .before .before .before .before .before .before .before .before .copy .ensures) (omega arith) (omega arith)) at (c .before .before .before .before .before .before .before .before .before .before .before .put-row .ensures)) (c .before .before .before .before .close .ensures)))
+    (λ c.
+    let at-close : tie.After-close = search in
+    let at-put-row : tie.After-put-row = search in
+    let at-copy : tie.After-copy = search in
+    let at-copy-wide : tie.After-copy-wide = search in
+    let at-most-rows : tie.After-most-rows = search in
+    let at-start : tie.Start = search in
+    let a = at-start .args in
+    let p = at-start .pre in
+    gives-closed (two (a .to-clients .now) (a .to-clocks .now)) (at-most-rows .most-rows .ensures) p (set-right _ _ _ (p .rising)) (omega arith) (omega arith) (rw (copied-rows p (at-copy-wide .copy-wide .ensures) (at-copy .copy .ensures) (omega arith) (omega arith)) at (at-put-row .put-row .ensures)) (at-close .close .ensures)))

@@ -13,8 +13,15 @@ smaller-at-spec =
     (tie.spec
     (λ c κs. (omega (arith, c .before .before .pre .few), table-climbs (c .before .before .pre)))
     (λ c κs. search needs)
-    (λ c. smaller-absent (c .before .before .before .before .before .pre) (c .before .before .find .ensures) _ (c .before .stands .ensures .wrong (not-true _ (c .if1 .taken))))
+    (λ c.
+    let at-start : tie.Start = search in
+    smaller-absent (at-start .pre) (c .before .before .find .ensures) _ (c .before .stands .ensures .wrong (not-true _ (c .if1 .taken))))
     (λ c. search needs)
-    (λ c. omega (arith, c .before .before .stands .ensures .right (not-false _ (c .before .if1 .left)) .within, c .before .before .before .before .before .before .pre .few))
+    (λ c.
+    let at-start : tie.Start = search in
+    omega (arith, c .before .before .stands .ensures .right (not-false _ (c .before .if1 .left)) .within, at-start .pre .few))
     (λ c κs. search needs)
-    (λ c. smaller-here (c .before .before .before .before .before .before .before .pre) (c .before .before .before .before .find .ensures) _ _ (c .before .before .before .stands .ensures .right (not-false _ (c .before .before .if1 .left))) (c .least .ensures)))
+    (λ c.
+    let at-stands : tie.After-stands = search in
+    let at-start : tie.Start = search in
+    smaller-here (at-start .pre) (at-stands .before .find .ensures) _ _ (at-stands .stands .ensures .right (not-false _ (c .before .before .if1 .left))) (c .least .ensures)))

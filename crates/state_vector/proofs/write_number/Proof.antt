@@ -12,6 +12,6 @@ write-number-spec =
     (λ c. search needs)
     (λ c. search needs)
     (λ c. search needs)
-    (λ c. number-put (c .before .w .given .1) (c .before .before .before .before .before .write-u64 .ensures))
+    (λ c. search number-put)
     (λ c. search needs)
     (λ c. absurd (number-fits _ _ _ _ (c .enum-told .given .1) (c .before .before .before .before .write-u64 .ensures) (c .before .before .before .before .before .before .before .pre))))

@@ -23,14 +23,20 @@ write-pairs-spec =
     μ-loop
     (λ c. writing-none _ _ _ _ (omega arith))
     (λ c. search needs)
-    (λ c. omega (arith, c .before .before .before .before .before .before .pre .0 .few))
+    (λ c.
+    let at-start : tie.Start Inv-loop μ-loop = search in
+    omega (arith, at-start .pre .0 .few))
     (λ c. search needs)
-    (λ c. omega (arith, c .before .before .before .before .before .before .before .pre .0 .few))
+    (λ c.
+    let at-start : tie.Start Inv-loop μ-loop = search in
+    omega (arith, at-start .pre .0 .few))
     (λ c κs. search needs)
-    (λ c κs. let p = c .before .before .before .before .before .before .before .before .before .pre in client-fits (p .0) (p .1) (c .before .before .before .before .before .loop .inv) (c .before .before .before .before .loop-test .taken))
-    (λ c κs. let p = c .before .before .before .before .before .before .before .before .before .before .before .before .before .pre in clock-fits (p .0) (p .1) (c .before .before .before .before .before .before .before .before .before .loop .inv) (c .before .before .before .before .before .before .before .before .loop-test .taken) (c .before .before .before .write-number .ensures) (c .before .before .before .before .before .wide .ensures))
+    (λ c κs. search client-fits)
+    (λ c κs. search clock-fits)
     (λ c. search needs)
     (λ c. search needs)
-    (λ c. let p = c .before .before .before .before .before .before .before .before .before .before .before .before .before .before .before .before .pre in writing-more (p .0) (p .1) (c .before .before .before .before .before .before .before .before .before .before .before .before .loop .inv) (c .before .before .before .before .before .before .before .before .before .before .before .loop-test .taken) (c .before .before .before .before .before .before .write-number .ensures) (c .before .before .before .before .before .before .before .before .wide .ensures) (c .before .before .write-number2 .ensures))
+    (λ c. search writing-more)
     (λ c. put-length (c .before .loop .inv .put))
-    (λ c. writing-all (c .before .before .before .before .before .pre .0) (c .before .before .before .before .before .pre .1) (c .before .loop .inv) (omega arith)))
+    (λ c.
+    let at-start : tie.Start Inv-loop μ-loop = search in
+    writing-all (at-start .pre .0) (at-start .pre .1) (c .before .loop .inv) (omega arith)))

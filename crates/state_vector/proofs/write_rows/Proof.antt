@@ -8,7 +8,13 @@ pub write-rows-spec : {M : Type 1} → statement M
 write-rows-spec =
     tie.close
     (tie.spec
-    (λ c κs. count-fits _ (c .before .before .before .before .args .buf .now) (c .before .before .before .before .pre .0) (c .before .before .before .before .pre .1))
-    (λ c κs. let p = c .before .before .before .before .before .before .before .before .pre in (p .0, rows-fit _ _ (p .0) (p .1) (c .before .before .before .write-number .ensures)))
+    (λ c κs.
+    let at-start : tie.Start = search in
+    count-fits _ (at-start .args .buf .now) (at-start .pre .0) (at-start .pre .1))
+    (λ c κs.
+    let at-write-number : tie.After-write-number = search in
+    let at-start : tie.Start = search in
+    let p = at-start .pre in
+    (p .0, rows-fit _ _ (p .0) (p .1) (at-write-number .write-number .ensures)))
     (λ c. search needs)
-    (λ c. let p = c .before .before .before .before .before .before .before .before .before .before .before .pre in rows-put _ _ (p .0) (p .1) (c .before .before .before .before .before .before .write-number .ensures) (c .before .before .write-pairs .ensures)))
+    (λ c. search rows-put))
