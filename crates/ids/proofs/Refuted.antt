@@ -13,7 +13,7 @@ use Rattle.tables.specs.declared.Made.the-variants as made
 use Rattle.tables.proofs.Below.{refusal-leaves, zeros}
 use Rattle.ids.specs.Rows.{Row, row}
 use Rattle.ids.specs.Tables.{Slices, Held, three, held, rows, most, filled, Merged, Diffed, Intersected, Inserted, Captured}
-use Rattle.ids.proofs.Determined.{writes-determined, capture-determined}
+use Rattle.ids.proofs.Determined.{writes-one, captured-one}
 
 abbrev nothing : Held
 nothing = held [] [] [] 0
@@ -46,20 +46,20 @@ Meets f = (a b : Held) (o : Slices) → Merged a b o (f a b o .0) (f a b o .1)
 
 -- a merge that always says FULL
 pub always-full : Meets (λ a b o. (filled [] o, made.Refused Full)) → ⊥
-always-full h = let e : made.Rows 0 ≡ made.Refused Full = writes-determined none empty-union (h nothing nothing none) .0 in let z : _≡_ {A = ℕ} 0 1 = cc in omega arith
+always-full h = let e : made.Rows 0 ≡ made.Refused Full = writes-one none empty-union (h nothing nothing none) .0 in let z : _≡_ {A = ℕ} 0 1 = cc in omega arith
 
 -- one constant table
 pub constant : (t : List Row) → Meets (λ a b o. (filled t o, made.Rows (length t))) → ⊥
 constant t h =
-    let p : made.Rows 0 ≡ made.Rows (length t) = writes-determined none empty-union (h nothing nothing none) .0 in
-    let q : made.Rows 1 ≡ made.Rows (length t) = writes-determined one single-union (h nothing some one) .0 in
+    let p : made.Rows 0 ≡ made.Rows (length t) = writes-one none empty-union (h nothing nothing none) .0 in
+    let q : made.Rows 1 ≡ made.Rows (length t) = writes-one one single-union (h nothing some one) .0 in
     let z : _≡_ {A = ℕ} 0 1 = cc in
     omega arith
 
 -- a merge that hands back its left table
 pub left-table : Meets (λ a b o. (filled (rows a) o, made.Rows (a .count))) → ⊥
 left-table h =
-    let q : made.Rows 1 ≡ made.Rows 0 = writes-determined one single-union (h nothing some one) .0 in
+    let q : made.Rows 1 ≡ made.Rows 0 = writes-one one single-union (h nothing some one) .0 in
     let z : _≡_ {A = ℕ} 0 1 = cc in
     omega arith
 
@@ -79,28 +79,28 @@ differ e = absurd (let z : _≡_ {A = ℕ} 0 1 = cc in omega arith)
 
 -- a difference with its sides swapped
 pub sides-swapped : ((a b : Held) (o out : Slices) (r : Made) → Diffed b a o out r → Diffed a b o out r) → ⊥
-sides-swapped h = differ (writes-determined one nothing-left (h nothing some one _ (made.Rows 1) all-left) .0)
+sides-swapped h = differ (writes-one one nothing-left (h nothing some one _ (made.Rows 1) all-left) .0)
 
 -- an intersection for a difference, and a difference for an intersection
 pub intersection-for-difference : ((a b : Held) (o out : Slices) (r : Made) → Intersected a b o out r → Diffed a b o out r) → ⊥
-intersection-for-difference h = differ (writes-determined one (h some nothing one _ (made.Rows 0) nothing-shared) all-left .0)
+intersection-for-difference h = differ (writes-one one (h some nothing one _ (made.Rows 0) nothing-shared) all-left .0)
 
 pub difference-for-intersection : ((a b : Held) (o out : Slices) (r : Made) → Diffed a b o out r → Intersected a b o out r) → ⊥
-difference-for-intersection h = differ (writes-determined one nothing-shared (h some nothing one _ (made.Rows 1) all-left) .0)
+difference-for-intersection h = differ (writes-one one nothing-shared (h some nothing one _ (made.Rows 1) all-left) .0)
 
 -- a capture that is a row short, and one that is not zeroed behind
 captured : Captured some one (three (7 ∷ []) (0 ∷ []) (1 ∷ [])) (made.Rows 1)
 captured = done (row 7 0 1 ∷ []) (lit≤ tt, (lit≤ tt, tt, tt)) refl (lit≤ tt) refl refl
 
 pub row-short : (out : Slices) → Captured some one out (made.Rows 0) → ⊥
-row-short out h = differ (capture-determined some one h captured .0)
+row-short out h = differ (captured-one some one h captured .0)
 
 captured-none : Captured nothing one one (made.Rows 0)
 captured-none = done [] (lit≤ tt, tt) refl (lit≤ tt) refl refl
 
 pub not-zeroed : (x : ℕ) → Captured nothing one (three (suc x ∷ []) (0 ∷ []) (0 ∷ [])) (made.Rows 0) → ⊥
 not-zeroed x h =
-    let e : suc x ∷ [] ≡ 0 ∷ [] = ap (λ (o : Slices). o .clients) (capture-determined nothing one {r = made.Rows 0} {r′ = made.Rows 0} h captured-none .1) in
+    let e : suc x ∷ [] ≡ 0 ∷ [] = ap (λ (o : Slices). o .clients) (captured-one nothing one {r = made.Rows 0} {r′ = made.Rows 0} h captured-none .1) in
     let z : suc x ≡ 0 = cc in
     omega arith
 
@@ -119,7 +119,7 @@ other-client =
     ) (lit≤ tt) refl refl
 
 pub joined-across : (out : Slices) → Inserted some (row 8 1 2) two out (made.Rows 1) → ⊥
-joined-across out h = let e : made.Rows 1 ≡ made.Rows 2 = writes-determined two h other-client .0 in let z : _≡_ {A = ℕ} 0 1 = cc in omega arith
+joined-across out h = let e : made.Rows 1 ≡ made.Rows 2 = writes-one two h other-client .0 in let z : _≡_ {A = ℕ} 0 1 = cc in omega arith
 
 -- ## What a refusal leaves: "On refusal every element is zero and the count is 0."
 

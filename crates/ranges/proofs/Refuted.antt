@@ -15,7 +15,7 @@ use Rattle.tables.proofs.Below.{zeros}
 use Rattle.ranges.specs.Rows.{Row, row, Joined}
 use Rattle.ranges.specs.Tables.{rows, most, flat, filled, Merged, Fills, FromRanges, ContainsClock}
 use Rattle.ranges.specs.Tables as fills
-use Rattle.ranges.proofs.Determined.{writes-determined, from-ranges-determined}
+use Rattle.ranges.proofs.Determined.{writes-one, from-ranges-one}
 use Rattle.ranges.proofs.Orders.{apart, apart-refused}
 
 -- two empty tables have an empty union
@@ -37,20 +37,20 @@ Meets f = (a : List ℕ) (n : ℕ) (b : List ℕ) (m len : ℕ) → Merged a n b
 
 -- a merge that always says FULL
 pub always-full : Meets (λ a n b m len. (filled len [], made.Refused Full)) → ⊥
-always-full h = let e : made.Rows 0 ≡ made.Refused Full = writes-determined 0 nothing (h [] 0 [] 0 0) .0 in let z : _≡_ {A = ℕ} 0 1 = cc in omega arith
+always-full h = let e : made.Rows 0 ≡ made.Refused Full = writes-one 0 nothing (h [] 0 [] 0 0) .0 in let z : _≡_ {A = ℕ} 0 1 = cc in omega arith
 
 -- one constant table
 pub constant : (t : List Row) → Meets (λ a n b m len. (filled len t, made.Rows (length t))) → ⊥
 constant t h =
-    let p : made.Rows 0 ≡ made.Rows (length t) = writes-determined 0 nothing (h [] 0 [] 0 0) .0 in
-    let q : made.Rows 1 ≡ made.Rows (length t) = writes-determined 2 single (h [] 0 (0 ∷ 1 ∷ []) 1 2) .0 in
+    let p : made.Rows 0 ≡ made.Rows (length t) = writes-one 0 nothing (h [] 0 [] 0 0) .0 in
+    let q : made.Rows 1 ≡ made.Rows (length t) = writes-one 2 single (h [] 0 (0 ∷ 1 ∷ []) 1 2) .0 in
     let z : _≡_ {A = ℕ} 0 1 = cc in
     omega arith
 
 -- a merge that hands back its left table
 pub left-table : Meets (λ a n b m len. (filled len (rows a n), made.Rows n)) → ⊥
 left-table h =
-    let q : made.Rows 1 ≡ made.Rows 0 = writes-determined 2 single (h [] 0 (0 ∷ 1 ∷ []) 1 2) .0 in
+    let q : made.Rows 1 ≡ made.Rows 0 = writes-one 2 single (h [] 0 (0 ∷ 1 ∷ []) 1 2) .0 in
     let z : _≡_ {A = ℕ} 0 1 = cc in
     omega arith
 
@@ -94,7 +94,7 @@ end-included (refuses n e) = let z : _≡_ {A = ℕ} 0 5 = ap (λ (a : Answer _)
 -- a `from_ranges` that looks only at the last table
 pub last-only : FromRanges apart 3 2 (0 ∷ 5 ∷ []) (made.Rows 1) → ⊥
 last-only h =
-    let e : made.Refused Full ≡ made.Rows 1 = from-ranges-determined apart 3 2 _ _ _ _ apart-refused h .0 in
+    let e : made.Refused Full ≡ made.Rows 1 = from-ranges-one apart 3 2 _ _ _ _ apart-refused h .0 in
     let z : _≡_ {A = ℕ} 0 1 = cc in
     omega arith
 

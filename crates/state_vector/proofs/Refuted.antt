@@ -23,7 +23,7 @@ use Rattle.state_vector.specs.declared.Order.{Order}
 use Rattle.state_vector.specs.declared.Order.the-variants as order
 use Rattle.state_vector.proofs.Looking.{look, set-right, merge-right}
 use Rattle.state_vector.proofs.Decoding.{stored-ways}
-use Rattle.state_vector.proofs.Determined.{set-min-determined, merge-determined, partial-cmp-determined, decode-determined}
+use Rattle.state_vector.proofs.Determined.{writes-one, compared-one, decoded-one}
 use Rattle.state_vector.proofs.Encoding.{Words}
 use Rattle.state_vector.proofs.RoundTrip.{stores, Fitting, vector-read}
 
@@ -63,20 +63,20 @@ Meets f = (a b : Held) (o : Slices) → Merged a b o (f a b o .0) (f a b o .1)
 
 -- a merge that always says FULL
 pub always-full : Meets (λ a b o. (filled [] o, made.Refused Full)) → ⊥
-always-full h = let e : made.Rows 0 ≡ made.Refused Full = merge-determined (two [] []) _ _ _ _ empty empty nothing (h empty empty (two [] [])) .0 in let z : _≡_ {A = ℕ} 0 1 = cc in omega arith
+always-full h = let e : made.Rows 0 ≡ made.Refused Full = writes-one (two [] []) nothing (h empty empty (two [] [])) .0 in let z : _≡_ {A = ℕ} 0 1 = cc in omega arith
 
 -- one constant table
 pub constant : (t : List Row) → Meets (λ a b o. (filled t o, made.Rows (length t))) → ⊥
 constant t h =
-    let p : made.Rows 0 ≡ made.Rows (length t) = merge-determined (two [] []) _ _ _ _ empty empty nothing (h empty empty (two [] [])) .0 in
-    let q : made.Rows 1 ≡ made.Rows (length t) = merge-determined spot _ _ _ _ empty (one 1 1) (single 1 1) (h empty (one 1 1) spot) .0 in
+    let p : made.Rows 0 ≡ made.Rows (length t) = writes-one (two [] []) nothing (h empty empty (two [] [])) .0 in
+    let q : made.Rows 1 ≡ made.Rows (length t) = writes-one spot (single 1 1) (h empty (one 1 1) spot) .0 in
     let z : _≡_ {A = ℕ} 0 1 = cc in
     omega arith
 
 -- a merge that hands back its left table
 pub left-table : Meets (λ a b o. (filled (rows a) o, made.Rows (a .count))) → ⊥
 left-table h =
-    let q : made.Rows 1 ≡ made.Rows 0 = merge-determined spot _ _ _ _ empty (one 1 1) (single 1 1) (h empty (one 1 1) spot) .0 in
+    let q : made.Rows 1 ≡ made.Rows 0 = writes-one spot (single 1 1) (h empty (one 1 1) spot) .0 in
     let z : _≡_ {A = ℕ} 0 1 = cc in
     omega arith
 
@@ -85,8 +85,8 @@ left-table h =
 -- one constant verdict, whatever it is
 pub constant-verdict : (v : Order) → ((a b : Held) → Compared a b v) → ⊥
 constant-verdict v h =
-    let p : v ≡ order.Equal = partial-cmp-determined empty empty v order.Equal (h empty empty) (says (table-empty, table-empty) refl ((λ c. omega arith), (λ c. omega arith))) in
-    let q : v ≡ order.Less = partial-cmp-determined empty (one 1 1) v order.Less (h empty (one 1 1))
+    let p : v ≡ order.Equal = compared-one empty empty v order.Equal (h empty empty) (says (table-empty, table-empty) refl ((λ c. omega arith), (λ c. omega arith))) in
+    let q : v ≡ order.Less = compared-one empty (one 1 1) v order.Less (h empty (one 1 1))
     (says (table-empty, table-one 1 1) refl ((λ c. omega arith), (λ f. let z : 1 ≤ 0 = f 1 in omega arith))) in
     let z : _≡_ {A = ℕ} 0 1 = cc in
     omega arith
@@ -98,7 +98,7 @@ pub absent-zero : (c k : ℕ) → MinSet empty c (suc k) spot (two (c ∷ []) (0
 unfolding put
 absent-zero c k h =
     let right : MinSet empty c (suc k) spot (two (c ∷ []) (suc k ∷ [])) (made.Rows 1) = done (row c (suc k) ∷ []) table-empty (set-right [] c (suc k) tt) (omega arith) refl refl in
-    let e = set-min-determined spot _ _ (made.Rows 1) (made.Rows 1) empty c (suc k) h right .1 in
+    let e = writes-one spot {r = made.Rows 1} {s = made.Rows 1} h right .1 in
     let z : 0 ≡ suc k = ap (λ (o : Slices). getD (o .clocks) 0 0) e in
     omega arith
 
@@ -156,4 +156,4 @@ module _ (r : Row) (words : (r .client < 2 ^ 64) × (r .clock < 2 ^ 32)) where
 -- a decoder that says another place, or another count
 pub another-place : (bs : List ℕ) (place : ℕ) (o out out′ : Slices) (n n′ p p′ : ℕ) → Decodes bs place o out (saidDecoded place (decoded.Done n p))
     → Decodes bs place o out′ (saidDecoded place (decoded.Done n′ p′)) → (n ≡ n′) × (p ≡ p′)
-another-place bs place o out out′ n n′ p p′ x y = let e = decode-determined bs place o out out′ (decoded.Done n p) (decoded.Done n′ p′) x y .0 in (cc, cc)
+another-place bs place o out out′ n n′ p p′ x y = let e = decoded-one bs place o out out′ (decoded.Done n p) (decoded.Done n′ p′) x y .0 in (cc, cc)

@@ -15,7 +15,7 @@ ghost use lib.ListN.{length, take};
 ghost use Rattle.tables.specs.Answers.{Says};
 ghost use Rattle.tables.specs.Limits.{vectorLimit};
 ghost use Rattle.state_vector.specs.Rows.{row, at, smaller, Set};
-ghost use Rattle.state_vector.specs.Vectors.{two, held, rows, rowsOf, room, Table, filled, Writes, Gets, MinSet, MaxSet, Merged, Compared};
+ghost use Rattle.state_vector.specs.Vectors.{two, held, rows, rowsOf, room, Table, filled, Writes, Get, MinSet, MaxSet, Merged, Compared};
 ghost use Rattle.state_vector.specs.Inner.{Climbs, Finds, Stands, put, Holds, Opens, Closes, Firsts, element, Stores, Passes, Rests, Fronts, Unites, Nulls, anyLess, Unders, judged, Judges, rowAt, span, Puts, Reads};
 ghost use Rattle.state_vector.specs.Bytes.{rowBytes, encoded, Encoded, pairsAt, saidDecoded, Decodes, ComesBack};
 ghost use Rattle.varint.specs.Number.{bytesOf};
@@ -43,7 +43,7 @@ pub enum Order {
 
 // The clock of a client; absent reads as 0.
 pub fn get(clients: &[u64], clocks: &[u32], count: usize, client: Client) -> Got
-    ensures { λ r. ⌜ Gets (held (now (clients .entry)) (now (clocks .entry)) count) (client .0) r ⌝ }
+    ensures { λ r. ⌜ Get (held (now (clients .entry)) (now (clocks .entry)) count) (client .0) r ⌝ }
 {
     if !well_formed(clients, clocks, count) {
         return Got::Refused(Refusal::Malformed);
