@@ -11,9 +11,8 @@ use Rattle.tables.specs.declared.Made.{Made}
 use Rattle.tables.specs.declared.Made.the-variants.{Rows}
 use Rattle.ids.specs.Rows.{row, Within, Holds, TableOf}
 use Rattle.ids.specs.Tables.{Slices, Held, three, Table, Inserted, Captured, Merged}
-use Rattle.desks.specs.Runs.{Place, desk, message, put, Event, insert, capture, merge, Run}
+use Rattle.desks.specs.Runs.{Place, desk, message, put, Event, insert, capture, merge, Routines, Run}
 use Rattle.desks.specs.Own.{own, stated}
-use Rattle.desks.specs.Wrong.{with-merge}
 use Rattle.desks.proofs.Own.{run-own}
 
 -- slices with room for one row: with none, and with the range 0..e of client 7
@@ -69,6 +68,10 @@ w2 = put w1 (message 0) (one 1)
 
 abbrev pub sending : List Event
 sending = capture 0 0 (Rows 1) ∷ insert 0 (row 7 0 1) (Rows 1) ∷ []
+
+-- the insert and the capture are right, and the merge is M
+abbrev pub with-merge : (Held → Held → Slices → Slices → Made → Type 0) → Routines
+with-merge M = record { inserted = Inserted; captured = Captured; merged = M }
 
 pub sent : (M : Held → Held → Slices → Slices → Made → Type 0) → Run (with-merge M) sending w2
 sent M = (w1, (w0, (λ p. refl), (lent 0 0, lent 7 1, first-insert, refl)), (lent 0 0, lent 7 1, copied 1 (lit< tt), refl))

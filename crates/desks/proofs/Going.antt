@@ -12,7 +12,7 @@ use Rattle.tables.specs.declared.Made.{Made}
 use Rattle.tables.specs.declared.Made.the-variants.{Rows, Refused}
 use Rattle.ids.specs.Rows.{Row, Within, Holds, TableOf, union}
 use Rattle.ids.specs.Tables.{Slices, Held, Table, rows, most, filled, Writes}
-use Rattle.ids.proofs.Determined.{writes-determined, capture-determined}
+use Rattle.ids.proofs.Determined.{writes-one, captured-one}
 use Rattle.desks.specs.Runs.{Place, desk, message, Event, insert, capture, merge, answering, Calls}
 use Rattle.desks.specs.Demand.{GoesOn}
 use Rattle.desks.specs.Own.{stated}
@@ -42,9 +42,9 @@ called w g (merge d m x) o =
     made o (g (desk d), g (message m)) (t .0) (both a b (t .0) (t .1))
 
 one : (w : Place → Held) (e : Event) (o out out′ : Slices) (a b : Made) → Calls stated w (answering e a) o out → Calls stated w (answering e b) o out′ → (a ≡ b) × (out ≡ out′)
-one w (insert d r x) o out out′ a b p q = writes-determined o p q
-one w (capture d m x) o out out′ a b p q = capture-determined (w (desk d)) o p q
-one w (merge d m x) o out out′ a b p q = writes-determined o p q
+one w (insert d r x) o out out′ a b p q = writes-one o p q
+one w (capture d m x) o out out′ a b p q = captured-one (w (desk d)) o p q
+one w (merge d m x) o out out′ a b p q = writes-one o p q
 
 pub goes-on : GoesOn stated
 goes-on log w r e o =

@@ -6,8 +6,8 @@ use mathlib.Core.List.{List}
 use denote.Ref.{RefT, now}
 use Rattle.varint.specs.Number.{Answer, Written}
 use Rattle.varint.specs.Integer.{IntAnswer}
-use Rattle.tables.proofs.Giving.{gives-determined}
-use Rattle.tables.proofs.Viewing.{made-same}
+use Rattle.varint.proofs.Determining.{Answers, Settles}
+use Rattle.tables.proofs.Determined.{told-one}
 use Rattle.ranges.specs.Rows as range
 use Rattle.ranges.specs.Tables as of-ranges
 use Rattle.ranges.proofs.Determined as ranges
@@ -19,7 +19,6 @@ use Rattle.state_vector.specs.Rows.{VectorOf}
 use Rattle.state_vector.specs.Vectors as of-vectors
 use Rattle.state_vector.specs.Vectors.{two}
 use Rattle.state_vector.specs.Bytes.{Encodes, writes, malformed}
-use Rattle.state_vector.proofs.Looking.{vector-one}
 use Rattle.state_vector.proofs.Determined as vectors
 use Rattle.ffi.specs.declared.Number.{Number}
 use Rattle.ffi.specs.declared.Integer.{Integer}
@@ -86,14 +85,6 @@ use Rattle.ffi.proofs.iz_vector_partial_cmp.Reads as vector-partial-cmp
 use Rattle.ffi.proofs.iz_vector_encode.Reads as vector-encode
 use Rattle.ffi.proofs.iz_vector_decode.Reads as vector-decode
 
--- a contract determines the answer of a call: of lifetimes, the parameters at entry x and, for each result, at exit
-abbrev Answers : {K R : Type 0} {X Y : K → Type 0} → ((κ : K) → X κ → R → Y κ → Type 0) → Type 0
-Answers {K} {R} {X} {Y} learnt = (κ : K) (x : X κ) (r s : R) (y z : Y κ) → learnt κ x r y → learnt κ x s z → r ≡ s
-
--- and what the call leaves in the memory that it was lent to write
-abbrev Settles : {K R M : Type 0} {X Y : K → Type 0} → ((κ : K) → X κ → R → Y κ → Type 0) → ((κ : K) → Y κ → M) → Type 0
-Settles {K} {R} {M} {X} {Y} learnt lent = (κ : K) (x : X κ) (r s : R) (y z : Y κ) → learnt κ x r y → learnt κ x s z → (r ≡ s) × (lent κ y ≡ lent κ z)
-
 -- ## The laws
 
 -- numbers: the statement is an equation for the struct
@@ -116,18 +107,18 @@ asked {view = view} one r s p q = sym (p .same) ∙ ap view (one (p .answer) (q 
 
 ranges-one : {ok : Type 0} {clocks : ℕ → Type 0} (len : ℕ) (out out′ : List ℕ) (r s : Rows) → Crosses (of-ranges.Writes ok (range.TableOf clocks) len out) asRows r
     → Crosses (of-ranges.Writes ok (range.TableOf clocks) len out′) asRows s → (r ≡ s) × (out ≡ out′)
-ranges-one len = crossed (λ m n a b p q. ranges.writes-determined len p q)
+ranges-one len = crossed (λ m n a b p q. ranges.writes-one len p q)
 
 pub ids-one : {ok : Type 0} {set : ℕ → ℕ → Type 0} (o out out′ : of-ids.Slices) (r s : Rows) → Crosses (of-ids.Writes ok (id.TableOf set) o out) asRows r
     → Crosses (of-ids.Writes ok (id.TableOf set) o out′) asRows s → (r ≡ s) × (out ≡ out′)
-ids-one o = crossed (λ m n a b p q. ids.writes-determined o p q)
+ids-one o = crossed (λ m n a b p q. ids.writes-one o p q)
 
 captured-one : (h : of-ids.Held) (o out out′ : of-ids.Slices) (r s : Rows) → Crosses (of-ids.Captured h o out) asRows r → Crosses (of-ids.Captured h o out′) asRows s → (r ≡ s) × (out ≡ out′)
-captured-one h o = crossed (λ m n a b p q. ids.capture-determined h o p q)
+captured-one h o = crossed (λ m n a b p q. ids.captured-one h o p q)
 
 vectors-one : {ok : Type 0} {clients : ℕ → Type 0} {clock : ℕ → ℕ} (o out out′ : of-vectors.Slices) (r s : Rows) → Crosses (of-vectors.Writes ok (VectorOf clients clock) o out) asRows r
     → Crosses (of-vectors.Writes ok (VectorOf clients clock) o out′) asRows s → (r ≡ s) × (out ≡ out′)
-vectors-one o = crossed (λ m n a b p q. let e = gives-determined vector-one p q in (made-same a b (e .0), e .1))
+vectors-one o = crossed (λ m n a b p q. vectors.writes-one o p q)
 
 -- a vector written
 encoded-one : {a : of-vectors.Held} {buf : List ℕ} {at : ℕ} (r s : Place) (m n : List ℕ) → Encodes a buf at (placed r m) → Encodes a buf at (placed s n) → (r ≡ s) × (m ≡ n)
@@ -241,25 +232,25 @@ iz-length-i64-determined κ x r s y z = λ p q. p ∙ sym q
 -- ## Range tables
 
 pub iz-ranges-contains-clock-determined : Answers ranges-contains-clock.Learnt
-iz-ranges-contains-clock-determined κ x r s y z = asked ranges.told-determined r s
+iz-ranges-contains-clock-determined κ x r s y z = asked told-one r s
 
 pub iz-ranges-find-start-determined : Answers ranges-find-start.Learnt
-iz-ranges-find-start-determined κ x r s y z = asked (ranges.find-start-determined _ _ _) r s
+iz-ranges-find-start-determined κ x r s y z = asked ranges.place-one r s
 
 pub iz-ranges-clock-start-determined : Answers ranges-clock-start.Learnt
-iz-ranges-clock-start-determined κ x r s y z = asked (ranges.clock-start-determined _ _) r s
+iz-ranges-clock-start-determined κ x r s y z = asked ranges.edge-one r s
 
 pub iz-ranges-clock-end-determined : Answers ranges-clock-end.Learnt
-iz-ranges-clock-end-determined κ x r s y z = asked (ranges.clock-end-determined _ _) r s
+iz-ranges-clock-end-determined κ x r s y z = asked ranges.edge-one r s
 
 pub iz-ranges-len-determined : Answers ranges-len.Learnt
-iz-ranges-len-determined κ x r s y z = asked (ranges.len-determined _ _) r s
+iz-ranges-len-determined κ x r s y z = asked ranges.counted-one r s
 
 pub iz-ranges-is-empty-determined : Answers ranges-is-empty.Learnt
-iz-ranges-is-empty-determined κ x r s y z = asked ranges.told-determined r s
+iz-ranges-is-empty-determined κ x r s y z = asked told-one r s
 
 pub iz-ranges-get-determined : Answers ranges-get.Learnt
-iz-ranges-get-determined κ x r s y z = asked (ranges.get-determined _ _ _) r s
+iz-ranges-get-determined κ x r s y z = asked ranges.found-one r s
 
 pub iz-ranges-insert-determined : Settles ranges-insert.Learnt (λ κ y. now (y .1 .1 .1 .1 .0))
 iz-ranges-insert-determined κ x r s y z = ranges-one _ _ _ r s
@@ -277,7 +268,7 @@ pub iz-ranges-intersect-determined : Settles ranges-intersect.Learnt (λ κ y. n
 iz-ranges-intersect-determined κ x r s y z = ranges-one _ _ _ r s
 
 pub iz-ranges-from-ranges-determined : Settles ranges-from-ranges.Learnt (λ κ y. now (y .1 .1 .0))
-iz-ranges-from-ranges-determined κ x r s y z = crossed (ranges.from-ranges-determined _ _ _) _ _ r s
+iz-ranges-from-ranges-determined κ x r s y z = crossed (ranges.from-ranges-one _ _ _) _ _ r s
 
 -- ## Id tables
 
@@ -297,18 +288,18 @@ pub iz-ids-intersect-determined : Settles ids-intersect.Learnt (λ κ y. threeAt
 iz-ids-intersect-determined κ x r s y z = ids-one (threeAt (x .1 .1 .1 .1 .1 .1 .1 .1)) _ _ r s
 
 pub iz-ids-contains-determined : Answers ids-contains.Learnt
-iz-ids-contains-determined κ x r s y z = asked (λ a b p q. ids.contains-determined _ _ _ p q) r s
+iz-ids-contains-determined κ x r s y z = asked told-one r s
 
 pub iz-ids-is-empty-determined : Answers ids-is-empty.Learnt
-iz-ids-is-empty-determined κ x r s y z = asked (λ a b p q. ids.is-empty-determined _ p q) r s
+iz-ids-is-empty-determined κ x r s y z = asked told-one r s
 
 pub iz-ids-len-determined : Answers ids-len.Learnt
-iz-ids-len-determined κ x r s y z = asked (λ a b p q. ids.len-determined _ p q) r s
+iz-ids-len-determined κ x r s y z = asked ids.counted-one r s
 
 -- ## State vectors
 
 pub iz-vector-get-determined : Answers vector-get.Learnt
-iz-vector-get-determined κ x r s y z = asked (vectors.get-determined _ _) r s
+iz-vector-get-determined κ x r s y z = asked (vectors.got-one _ _) r s
 
 pub iz-vector-set-min-determined : Settles vector-set-min.Learnt (λ κ y. twoAt (y .1 .1 .1 .1 .1))
 iz-vector-set-min-determined κ x r s y z = vectors-one (twoAt (x .1 .1 .1 .1 .1)) _ _ r s
@@ -320,10 +311,10 @@ pub iz-vector-merge-determined : Settles vector-merge.Learnt (λ κ y. twoAt (y 
 iz-vector-merge-determined κ x r s y z = vectors-one (twoAt (x .1 .1 .1 .1 .1 .1)) _ _ r s
 
 pub iz-vector-partial-cmp-determined : Answers vector-partial-cmp.Learnt
-iz-vector-partial-cmp-determined κ x r s y z = asked (vectors.partial-cmp-determined _ _) r s
+iz-vector-partial-cmp-determined κ x r s y z = asked (vectors.compared-one _ _) r s
 
 pub iz-vector-encode-determined : Settles vector-encode.Learnt (λ κ y. now (y .1 .1 .1 .0))
 iz-vector-encode-determined κ x r s y z = encoded-one r s _ _
 
 pub iz-vector-decode-determined : Settles vector-decode.Learnt (λ κ y. twoAt (y .1 .1))
-iz-vector-decode-determined κ x r s y z = crossed (vectors.decode-determined _ _ _) _ _ r s
+iz-vector-decode-determined κ x r s y z = crossed (vectors.decoded-one _ _ _) _ _ r s

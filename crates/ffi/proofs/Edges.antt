@@ -18,8 +18,9 @@ use Rattle.varint.specs.Number.{andThen, eleventh, tenth, reads, readAt, narrow
 use Rattle.varint.specs.Integer.{IntAnswer, refusedInt, signedAt, plain, fitting, minusAt, signedOf}
 use Rattle.varint.specs.declared.Refusal.the-variants.{End}
 use Rattle.tables.specs.Limits.{rowLimit, vectorLimit}
-use Rattle.tables.specs.Answers.{Answer, answer, Gives, done, full, malformed, Tells, says, refuses, Says, saidMade, saidTold}
+use Rattle.tables.specs.Answers.{Answer, Gives, done, full, malformed, Tells, says, refuses, Says, saidMade, saidTold}
 use Rattle.tables.specs.declared.Made.the-variants as made
+use Rattle.tables.proofs.Refuted as wrong
 use Rattle.ranges.specs.Tables as of-ranges
 use Rattle.ranges.proofs.Same.{last-clock}
 use Rattle.ids.proofs.Same as ids
@@ -43,11 +44,6 @@ use Rattle.ffi.proofs.Determined.{number-one, integer-one, placed-one, 
 -- ## Tables
 
 module _ {T O ok : Type 0} {right : List T → Type 0} {most : ℕ} {fill : List T → O} {out : O} where
-  refused-made : {a : Answer ℕ} → (ok → ⊥) → Gives ok right most fill out a → (a ≡ answer 5 0) × (out ≡ fill [])
-  refused-made n (done t k r l e f) = absurd (n k)
-  refused-made n (full t k r l e f) = absurd (n k)
-  refused-made n (malformed m e f) = (e, f)
-
   within : {a : Answer ℕ} → Gives ok right most fill out a → a .value ≤ most
   within (done t k r l e f) = omega (arith, ap (λ (a : Answer ℕ). a .value) e)
   within (full t k r l e f) = omega (arith, ap (λ (a : Answer ℕ). a .value) e)
@@ -56,7 +52,7 @@ module _ {T O ok : Type 0} {right : List T → Type 0} {most : ℕ} {fill : List
   -- an input table breaks its rules: MALFORMED, whatever the room, and every element of the output is zero
   pub malformed-made : (r : Rows) → (ok → ⊥) → Crosses (λ a. Gives ok right most fill out (saidMade a)) asRows r → (r ≡ record { no = 5; count = 0 }) × (out ≡ fill [])
   malformed-made r n c =
-      let e = refused-made n (c .kept) in
+      let e = wrong.malformed-made n (c .kept) in
       (sym (c .same) ∙ ap (λ (a : Answer ℕ). record { no = a .no; count = a .value }) (e .0), e .1)
 
   -- no answer counts more rows than the shortest slice of the output holds: none where one of them has no element
@@ -66,11 +62,7 @@ module _ {T O ok : Type 0} {right : List T → Type 0} {most : ℕ} {fill : List
 -- a question about such a table: MALFORMED and the value that stands for none
 pub malformed-asked : {A B S ok : Type 0} {right : B → Type 0} {none : B} (said : A → Answer B) (show : ℕ → B → S) (r : S) → (ok → ⊥)
     → Crosses (λ a. Tells ok right none (said a)) (λ a. show (said a .no) (said a .value)) r → r ≡ show 5 none
-malformed-asked {ok = ok} {right = right} {none = none} said show r n c = sym (c .same) ∙ ap (λ (a : Answer _). show (a .no) (a .value)) (go (c .kept))
-  where
-    go : {a : Answer _} → Tells ok right none a → a ≡ answer 5 none
-    go (says k e p) = absurd (n k)
-    go (refuses m e) = e
+malformed-asked said show r n c = sym (c .same) ∙ ap (λ (a : Answer _). show (a .no) (a .value)) (wrong.malformed-asked n (c .kept))
 
 -- "n at most 1,024 and at most half the slice's length"; "the count at most each slice's length"
 pub ranges-over : (l : List ℕ) (n : ℕ) → (length l < 2 * n) ⊎ (rowLimit < n) → of-ranges.Table l n → ⊥
@@ -170,7 +162,7 @@ module _ (bs : List ℕ) (at : ℕ) (h : length bs ≤ at) where
       → (r ≡ record { no = 1; count = 0; next = at }) × (out ≡ of-vectors.filled [] o)
   unfolding bytes.vectorAt andThen
   decode-past o out r x =
-      crossed (vectors.decode-determined bs at o) out (of-vectors.filled [] o) r (record { no = 1; count = 0; next = at }) x
+      crossed (vectors.decoded-one bs at o) out (of-vectors.filled [] o) r (record { no = 1; count = 0; next = at }) x
       (record { answer = decoded.Refused End; kept = bytes.refused 1 (rw (number-past 32)) refl refl; same = refl })
 
 -- more bytes than remain from the place, or a place past the end: FULL, the buffer and the place as given

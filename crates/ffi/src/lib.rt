@@ -1109,7 +1109,7 @@ pub extern "C" fn iz_ids_is_empty(
     ends: &[u32],
     count: usize,
 ) -> YesNo
-    ensures { λ r. ⌜ Crosses (of-ids.Empty (held (now (clients .entry)) (now (starts .entry)) (now (ends .entry)) count)) asYesNo r ⌝ }
+    ensures { λ r. ⌜ Crosses (of-ids.IsEmpty (held (now (clients .entry)) (now (starts .entry)) (now (ends .entry)) count)) asYesNo r ⌝ }
 {
     yes_no(ids::is_empty(clients, starts, ends, count))
 }
@@ -1125,7 +1125,7 @@ pub extern "C" fn iz_ids_len(clients: &[u64], starts: &[u32], ends: &[u32], coun
 
 #[no_mangle]
 pub extern "C" fn iz_vector_get(clients: &[u64], clocks: &[u32], count: usize, client: u64) -> Value
-    ensures { λ r. ⌜ Crosses (of-vectors.Gets (of-vectors.held (now (clients .entry)) (now (clocks .entry)) count) client) asValue r ⌝ }
+    ensures { λ r. ⌜ Crosses (of-vectors.Get (of-vectors.held (now (clients .entry)) (now (clocks .entry)) count) client) asValue r ⌝ }
 {
     value_of(state_vector::get(clients, clocks, count, Client(client)))
 }

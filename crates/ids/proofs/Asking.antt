@@ -10,12 +10,13 @@ use lib.ListN.{length, getD}
 use borrow.Author.Tests.{not-true, not-false}
 use Rattle.varint.specs.declared.Refusal.the-variants.{Malformed}
 use Rattle.tables.specs.Answers.{Tells, says, refuses, Says, saidTold, saidCounted}
+use Rattle.tables.specs.Clients.{Among}
 use Rattle.tables.specs.Inner.Rows.{at, span}
 use Rattle.tables.specs.declared.Told.the-variants as told
 use Rattle.tables.specs.declared.Counted.the-variants as counted
 use Rattle.tables.proofs.Saying.{says-yes, says-no}
 use Rattle.ids.specs.Rows.{Row, Holds}
-use Rattle.ids.specs.Tables.{held, rowsOf, Table, Contains, Has, Among, Rising, Clients}
+use Rattle.ids.specs.Tables.{held, rowsOf, Table, Contains, In, Rising, Clients}
 use Rattle.ids.specs.Inner.{numberOf, idRow, IdTable, Checked, Fresh}
 use Rattle.ids.proofs.Numbering.{idAt, fit, rows-span, length-rows, Narrow, rises}
 use Rattle.ids.proofs.Reading.{holds-placed}
@@ -77,7 +78,7 @@ one-more n i many r a b c d = omega arith
 pub record Counting (cs ss es : List ℕ) (i k many : ℕ) : Type 0 where
   pub behind : List ℕ
   pub rising : Rising (getD cs i 0 ∷ behind)
-  pub exactly : (c : ℕ) → Among (getD cs i 0 ∷ behind) c ↔ Has (span (idAt cs ss es) i k) c
+  pub exactly : (c : ℕ) → Among (getD cs i 0 ∷ behind) c ↔ In (span (idAt cs ss es) i k) c
   pub number : many ≡ length (getD cs i 0 ∷ behind)
 
 one-row : (cs ss es : List ℕ) (i : ℕ) → Counting cs ss es i 1 1

@@ -9,7 +9,7 @@ use Rattle.tables.specs.declared.Told.{Told}
 use Rattle.tables.specs.declared.Counted.{Counted}
 use Rattle.tables.proofs.Below.{Alike, alike-rule, alike-both, gives-below, tells-below}
 use Rattle.ids.specs.Rows.{Row, Within, Holds, Joined, TableOf, union, difference, intersection}
-use Rattle.ids.specs.Tables.{Slices, Held, most, rows, Table, Inserted, Merged, Diffed, Intersected, Captured, Contains, Empty, Clients, Len}
+use Rattle.ids.specs.Tables.{Slices, Held, most, rows, Table, Inserted, Merged, Diffed, Intersected, Captured, Contains, IsEmpty, Clients, Len}
 
 -- the same rows below the count, which fits the slices of both or of neither
 pub record Below (a b : Held) : Type 0 where
@@ -22,7 +22,7 @@ module _ {a a′ : Held} (s : Below a a′) where
   pub contains-below : (c k : ℕ) (r : Told) → Contains a c k r ↔ Contains a′ c k r
   contains-below c k r = tells-below (λ t v. Says (Holds t c k) v) (one s)
 
-  pub is-empty-below : (r : Told) → Empty a r ↔ Empty a′ r
+  pub is-empty-below : (r : Told) → IsEmpty a r ↔ IsEmpty a′ r
   is-empty-below r = tells-below (λ t v. Says (t ≡ []) v) (one s)
 
   pub len-below : (r : Counted) → Len a r ↔ Len a′ r

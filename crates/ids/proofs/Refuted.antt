@@ -1,19 +1,109 @@
 -- Wrong programs that the promises exclude: document 01, "How tight the statements are" and "Errors that tempt". Assumes nothing.
-use mathlib.Core.Logic.{_⊎_, inl, inr, ⊎-elim}
-use mathlib.Core.Path.{_≡_, refl, ap, subst}
-use mathlib.Core.List.{List, [], _∷_}
-use Prim.Native.Nat.{ℕ, suc, _-_, _<_}
+use mathlib.Core.Logic.{_⊎_, inl, inr, ⊎-elim, _↔_}
+use mathlib.Core.Path.{_≡_, refl, ap, ap₂, sym, subst, _∙_}
+use mathlib.Core.List.{List, [], _∷_, map}
+use Prim.Native.Nat.{ℕ, _-_, _≤_, _<_}
 use native.Mathlib.Omega.{arith}
-use lib.ListN.{length, getD}
+use lib.ListN.{length, getD, length-map}
 use lib.Dec.{lit≤}
 use Rattle.varint.specs.declared.Refusal.the-variants.{Full}
-use Rattle.tables.specs.Answers.{Answer, padded, Gives, done}
+use Rattle.tables.specs.Answers.{Answer, padded, Gives, done, full, malformed}
 use Rattle.tables.specs.declared.Made.{Made}
 use Rattle.tables.specs.declared.Made.the-variants as made
 use Rattle.tables.proofs.Below.{refusal-leaves, zeros}
-use Rattle.ids.specs.Rows.{Row, row}
-use Rattle.ids.specs.Tables.{Slices, Held, three, held, rows, most, filled, Merged, Diffed, Intersected, Inserted, Captured}
-use Rattle.ids.proofs.Determined.{writes-determined, capture-determined}
+use Rattle.tables.proofs.Refuted as wrong
+use Rattle.tables.proofs.Refuted.{Tell, Shown, handed-out, padded-tell, padded-behind}
+use Rattle.ids.specs.Rows.{Row, row, Within, Holds, Joined, TableOf, union, difference, intersection}
+use Rattle.ids.specs.Tables.{Slices, Held, three, held, rows, most, Table, filled, Writes, Merged, Diffed, Intersected, Inserted, Captured}
+use Rattle.ids.proofs.Determined.{writes-one}
+
+-- ## Every routine that writes a table
+
+-- rows by their columns
+columns-tell : (t u : List Row) → length t ≡ length u → map (λ (r : Row). r .client) t ≡ map (λ (r : Row). r .client) u → map (λ (r : Row). r .start) t ≡ map (λ (r : Row). r .start) u
+    → map (λ (r : Row). r .end) t ≡ map (λ (r : Row). r .end) u → t ≡ u
+columns-tell [] [] h a b c = refl
+columns-tell [] (r ∷ u) h a b c = absurd (omega arith)
+columns-tell (r ∷ t) [] h a b c = absurd (omega arith)
+columns-tell (r ∷ t) (s ∷ u) h a b c =
+    let x : r .client ≡ s .client = cc in
+    let y : r .start ≡ s .start = cc in
+    let z : r .end ≡ s .end = cc in
+    ap₂ _∷_ (λ i. record { client = x i; start = y i; end = z i }) (columns-tell t u (omega arith) (cc) (cc) (cc))
+
+filled-tell : (o : Slices) → Tell (λ t. filled t o)
+filled-tell o t u h e = columns-tell t u h
+    (column (λ (r : Row). r .client) (length (o .clients)) (ap (λ (s : Slices). s .clients) e))
+    (column (λ (r : Row). r .start) (length (o .starts)) (ap (λ (s : Slices). s .starts) e))
+    (column (λ (r : Row). r .end) (length (o .ends)) (ap (λ (s : Slices). s .ends) e))
+  where
+    column : (f : Row → ℕ) (n : ℕ) → padded n (map f t) ≡ padded n (map f u) → map f t ≡ map f u
+    column f n = padded-tell n (map f t) (map f u) (length-map t f ∙ h ∙ sym (length-map u f))
+
+-- the element i of each slice
+abbrev At : (ℕ → Type 0) → ℕ → Slices → Type 0
+At P i o = P (getD (o .clients) i 0) × P (getD (o .starts) i 0) × P (getD (o .ends) i 0)
+
+module _ {ok : Type 0} {right : List Row → Type 0} (o : Slices) {out : Slices} where
+  -- FULL before MALFORMED
+  pub full-first : (ok → ⊥) → Writes ok right o out (made.Refused Full) → ⊥
+  full-first n = wrong.full-first n refl
+
+  -- what stands behind the rows
+  pub zeroed : (n i : ℕ) → n ≤ i → Writes ok right o out (made.Rows n) → At (λ v. v ≡ 0) i out
+  zeroed n i h (done t k r m e f) = (
+    ap (λ (s : Slices). getD (s .clients) i 0) f ∙ behind (λ (r : Row). r .client) (length (o .clients)),
+    ap (λ (s : Slices). getD (s .starts) i 0) f ∙ behind (λ (r : Row). r .start) (length (o .starts)),
+    ap (λ (s : Slices). getD (s .ends) i 0) f ∙ behind (λ (r : Row). r .end) (length (o .ends)),
+  )
+    where
+      behind : (f : Row → ℕ) (len : ℕ) → getD (padded len (map f t)) i 0 ≡ 0
+      behind f len = padded-behind len (map f t) i (omega (arith, length-map t f, ap (λ (a : Answer ℕ). a .value) e))
+  zeroed n i h (full t k r m e f) = absurd (omega (arith, ap (λ (a : Answer ℕ). a .no) e))
+  zeroed n i h (malformed m e f) = absurd (omega (arith, ap (λ (a : Answer ℕ). a .no) e))
+
+-- rows that are not joined
+pub not-joined : {ok : Type 0} {ids : ℕ → ℕ → Type 0} (o : Slices) (t : List Row) → (Joined t → ⊥) → Writes ok (TableOf ids) o (filled t o) (made.Rows (length t)) → ⊥
+not-joined o t n h = n (handed-out (filled-tell o) t refl refl h .0)
+
+module _ {I : Type 0} {P : I → Slices → Slices → Made → Type 0} {back : I → List Row} (s : Shown most (λ o t. filled t o) P back) where
+  -- one that always says FULL
+  pub always-full : ((i : I) (o : Slices) → P i o (filled [] o) (made.Refused Full)) → ⊥
+  always-full = wrong.always-full filled-tell s
+
+  -- one constant table
+  pub constant : (t : List Row) → ((i : I) (o : Slices) → P i o (filled t o) (made.Rows (length t))) → ⊥
+  constant = wrong.constant filled-tell s
+
+  -- one that hands back its left table
+  pub left-table : ((i : I) (o : Slices) → P i o (filled (back i) o) (made.Rows (length (back i)))) → ⊥
+  left-table = wrong.handed-back filled-tell s
+
+abbrev none : Slices
+none = three [] [] []
+
+-- shown by an input whose result is empty, one whose result has clock 0 of client 7, and one whose left table is wrong there
+module _ {I : Type 0} {P : I → Slices → Slices → Made → Type 0} {left : I → List Row} (ok : I → Type 0) (ids : I → ℕ → ℕ → Type 0)
+    (is : (i : I) (o out : Slices) (r : Made) → P i o out r → Writes (ok i) (TableOf (ids i)) o out r) where
+  shown : (empty some other : I) → ((c k : ℕ) → ids empty c k → ⊥) → ids some 7 0 → (Holds (left other) 7 0 ↔ ids other 7 0 → ⊥) → Shown most (λ o t. filled t o) P left
+  shown empty some other e f g =
+      record {
+        ok = ok;
+        right = λ i. TableOf (ids i);
+        is = λ i o p. is i o _ _ p;
+        small = empty;
+        room = none;
+        fits = no-row;
+        one = some;
+        two = empty;
+        apart = λ t p q. e 7 0 (q .1 7 0 .0 (p .1 7 0 .1 f));
+        other = other;
+        stale = λ p. g (p .1 7 0);
+      }
+    where
+      no-row : (t : List Row) → TableOf (ids empty) t → length t ≤ most none
+      no-row [] p = omega arith
+      no-row (r ∷ t) p = absurd (e (r .client) (r .start) (p .1 (r .client) (r .start) .0 (inl (refl, omega arith, p .0 .0))))
 
 abbrev nothing : Held
 nothing = held [] [] [] 0
@@ -22,46 +112,56 @@ nothing = held [] [] [] 0
 abbrev some : Held
 some = held (7 ∷ []) (0 ∷ []) (1 ∷ []) 1
 
-abbrev none : Slices
-none = three [] [] []
+within : Within (row 7 0 1) 7 0
+within = (refl, lit≤ tt, lit≤ tt)
 
+empty-range : (c k : ℕ) → Within (row 7 0 0) c k → ⊥
+empty-range c k h = omega arith
+
+pub inserting : Shown most (λ o t. filled t o) (λ (i : Held × Row). Inserted (i .0) (i .1)) (λ i. rows (i .0))
+inserting = shown (λ i. Table (i .0)) (λ i c k. Holds (rows (i .0)) c k ⊎ Within (i .1) c k) (λ i o out r p. p)
+    (nothing, row 7 0 0) (nothing, row 7 0 1) (nothing, row 7 0 1) (λ c k. ⊎-elim (λ h. h) (empty-range c k)) (inr within) (λ h. h .1 (inr within))
+
+pub merging : Shown most (λ o t. filled t o) (λ (i : Held × Held). Merged (i .0) (i .1)) (λ i. rows (i .0))
+merging = shown (λ i. Table (i .0) × Table (i .1)) (λ i. union (rows (i .0)) (rows (i .1))) (λ i o out r p. p)
+    (nothing, nothing) (nothing, some) (nothing, some) (λ c k. ⊎-elim (λ h. h) (λ h. h)) (inr (inl within)) (λ h. h .1 (inr (inl within)))
+
+pub diffing : Shown most (λ o t. filled t o) (λ (i : Held × Held). Diffed (i .0) (i .1)) (λ i. rows (i .0))
+diffing = shown (λ i. Table (i .0) × Table (i .1)) (λ i. difference (rows (i .0)) (rows (i .1))) (λ i o out r p. p)
+    (nothing, nothing) (some, nothing) (some, some) (λ c k h. h .0) (inl within, λ h. h) (λ h. h .0 (inl within) .1 (inl within))
+
+pub intersecting : Shown most (λ o t. filled t o) (λ (i : Held × Held). Intersected (i .0) (i .1)) (λ i. rows (i .0))
+intersecting = shown (λ i. Table (i .0) × Table (i .1)) (λ i. intersection (rows (i .0)) (rows (i .1))) (λ i o out r p. p)
+    (nothing, nothing) (some, some) (some, nothing) (λ c k h. h .0) (inl within, inl within) (λ h. h .0 (inl within) .1)
+
+-- of a capture: an empty table for the one that it copies
+pub capturing : Shown most (λ o t. filled t o) Captured (λ i. [])
+capturing =
+    record {
+      ok = Table;
+      right = λ i t. t ≡ rows i;
+      is = λ i o p. p;
+      small = nothing;
+      room = none;
+      fits = λ t e. omega (arith, ap length e);
+      one = some;
+      two = nothing;
+      apart = λ t p q. omega (arith, ap length p, ap length q);
+      other = some;
+      stale = λ p. omega (arith, ap length p);
+    }
+
+-- ## Each for itself
+
+-- a capture with another number of rows
+pub row-short : (a : Held) (o out : Slices) (n : ℕ) → Captured a o out (made.Rows n) → n ≡ length (rows a)
+row-short a o out n (done t k r m e f) = ap (λ (b : Answer ℕ). b .value) e ∙ ap length r
+row-short a o out n (full t k r m e f) = absurd (omega (arith, ap (λ (b : Answer ℕ). b .no) e))
+row-short a o out n (malformed m e f) = absurd (omega (arith, ap (λ (b : Answer ℕ). b .no) e))
+
+-- room for one row
 abbrev one : Slices
 one = three (0 ∷ []) (0 ∷ []) (0 ∷ [])
-
--- two empty tables have an empty union
-empty-union : Merged nothing nothing none none (made.Rows 0)
-empty-union = done [] ((lit≤ tt, tt), (lit≤ tt, tt)) (tt, λ c k. ((λ h. absurd h), (λ h. ⊎-elim (λ y. y) (λ y. y) h))) (lit≤ tt) refl refl
-
--- the union of nothing and one row
-single-union : Merged nothing some one (three (7 ∷ []) (0 ∷ []) (1 ∷ [])) (made.Rows 1)
-single-union =
-    done (row 7 0 1 ∷ []) ((lit≤ tt, tt), (lit≤ tt, (lit≤ tt, tt, tt))) ((lit≤ tt, tt, tt), λ c k. ((λ h. inr h), (λ h. ⊎-elim (λ y. absurd y) (λ y. y) h))) (lit≤ tt) refl refl
-
--- what a merge leaves and answers
-abbrev Merge : Type 0
-Merge = Held → Held → Slices → Slices × Made
-
-abbrev Meets : Merge → Type 0
-Meets f = (a b : Held) (o : Slices) → Merged a b o (f a b o .0) (f a b o .1)
-
--- a merge that always says FULL
-pub always-full : Meets (λ a b o. (filled [] o, made.Refused Full)) → ⊥
-always-full h = let e : made.Rows 0 ≡ made.Refused Full = writes-determined none empty-union (h nothing nothing none) .0 in let z : _≡_ {A = ℕ} 0 1 = cc in omega arith
-
--- one constant table
-pub constant : (t : List Row) → Meets (λ a b o. (filled t o, made.Rows (length t))) → ⊥
-constant t h =
-    let p : made.Rows 0 ≡ made.Rows (length t) = writes-determined none empty-union (h nothing nothing none) .0 in
-    let q : made.Rows 1 ≡ made.Rows (length t) = writes-determined one single-union (h nothing some one) .0 in
-    let z : _≡_ {A = ℕ} 0 1 = cc in
-    omega arith
-
--- a merge that hands back its left table
-pub left-table : Meets (λ a b o. (filled (rows a) o, made.Rows (a .count))) → ⊥
-left-table h =
-    let q : made.Rows 1 ≡ made.Rows 0 = writes-determined one single-union (h nothing some one) .0 in
-    let z : _≡_ {A = ℕ} 0 1 = cc in
-    omega arith
 
 -- nothing without one row is nothing, and one row without nothing is the row: sides swapped, or the intersection or the union in its place, differ
 nothing-left : Diffed nothing some one (filled [] one) (made.Rows 0)
@@ -79,30 +179,14 @@ differ e = absurd (let z : _≡_ {A = ℕ} 0 1 = cc in omega arith)
 
 -- a difference with its sides swapped
 pub sides-swapped : ((a b : Held) (o out : Slices) (r : Made) → Diffed b a o out r → Diffed a b o out r) → ⊥
-sides-swapped h = differ (writes-determined one nothing-left (h nothing some one _ (made.Rows 1) all-left) .0)
+sides-swapped h = differ (writes-one one nothing-left (h nothing some one _ (made.Rows 1) all-left) .0)
 
 -- an intersection for a difference, and a difference for an intersection
 pub intersection-for-difference : ((a b : Held) (o out : Slices) (r : Made) → Intersected a b o out r → Diffed a b o out r) → ⊥
-intersection-for-difference h = differ (writes-determined one (h some nothing one _ (made.Rows 0) nothing-shared) all-left .0)
+intersection-for-difference h = differ (writes-one one (h some nothing one _ (made.Rows 0) nothing-shared) all-left .0)
 
 pub difference-for-intersection : ((a b : Held) (o out : Slices) (r : Made) → Diffed a b o out r → Intersected a b o out r) → ⊥
-difference-for-intersection h = differ (writes-determined one nothing-shared (h some nothing one _ (made.Rows 1) all-left) .0)
-
--- a capture that is a row short, and one that is not zeroed behind
-captured : Captured some one (three (7 ∷ []) (0 ∷ []) (1 ∷ [])) (made.Rows 1)
-captured = done (row 7 0 1 ∷ []) (lit≤ tt, (lit≤ tt, tt, tt)) refl (lit≤ tt) refl refl
-
-pub row-short : (out : Slices) → Captured some one out (made.Rows 0) → ⊥
-row-short out h = differ (capture-determined some one h captured .0)
-
-captured-none : Captured nothing one one (made.Rows 0)
-captured-none = done [] (lit≤ tt, tt) refl (lit≤ tt) refl refl
-
-pub not-zeroed : (x : ℕ) → Captured nothing one (three (suc x ∷ []) (0 ∷ []) (0 ∷ [])) (made.Rows 0) → ⊥
-not-zeroed x h =
-    let e : suc x ∷ [] ≡ 0 ∷ [] = ap (λ (o : Slices). o .clients) (capture-determined nothing one {r = made.Rows 0} {r′ = made.Rows 0} h captured-none .1) in
-    let z : suc x ≡ 0 = cc in
-    omega arith
+difference-for-intersection h = differ (writes-one one nothing-shared (h some nothing one _ (made.Rows 1) all-left) .0)
 
 -- an insert that joins its row to that of the next client: [7: 0..1] and 1..2 of client 8 make two rows
 abbrev two : Slices
@@ -119,7 +203,7 @@ other-client =
     ) (lit≤ tt) refl refl
 
 pub joined-across : (out : Slices) → Inserted some (row 8 1 2) two out (made.Rows 1) → ⊥
-joined-across out h = let e : made.Rows 1 ≡ made.Rows 2 = writes-determined two h other-client .0 in let z : _≡_ {A = ℕ} 0 1 = cc in omega arith
+joined-across out h = let e : made.Rows 1 ≡ made.Rows 2 = writes-one two h other-client .0 in let z : _≡_ {A = ℕ} 0 1 = cc in omega arith
 
 -- ## What a refusal leaves: "On refusal every element is zero and the count is 0."
 

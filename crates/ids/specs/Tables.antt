@@ -6,6 +6,7 @@ use mathlib.Core.Bool.{false}
 use Prim.Native.Nat.{ℕ, zero, suc, _≤_, _<_, min}
 use lib.ListN.{length}
 use Rattle.tables.specs.Limits.{rowLimit}
+use Rattle.tables.specs.Clients.{Among}
 use Rattle.tables.specs.Answers.{padded, Gives, Tells, Says, saidMade, saidTold, saidCounted}
 use Rattle.tables.specs.declared.Made.{Made}
 use Rattle.tables.specs.declared.Told.{Told}
@@ -48,7 +49,7 @@ room o = min (length (o .clients)) (min (length (o .starts)) (length (o .ends)))
 abbrev pub most : Slices → ℕ
 most o = min rowLimit (room o)
 
--- well formed
+-- well formed: "the count at most each slice's length", "Clients never fall; rows of one client obey the range rule."
 abbrev pub Table : Held → Type 0
 Table h = (h .count ≤ most (h .slices)) × Joined (rows h)
 
@@ -60,19 +61,24 @@ filled t o = record {
   ends = padded (length (o .ends)) (map (λ (r : Row). r .end) t);
 }
 
--- a routine that reads tables and writes another one
+-- "An operation reads its tables and writes another one."
 abbrev pub Writes : Type 0 → (List Row → Type 0) → Slices → Slices → Made → Type 0
 Writes ok right o out r = Gives ok right (most o) (λ t. filled t o) out (saidMade r)
 
+-- "The id table has, per client, `insert_range`, `contains`, `merge`, `diff`, `intersect` with the same meaning": "`insert`". The ids of the table and those of
+-- the range, which has none where its start is not below its end: "ours adds no row"
 abbrev pub Inserted : Held → Row → Slices → Slices → Made → Type 0
 Inserted a r = Writes (Table a) (TableOf (λ c k. Holds (rows a) c k ⊎ Within r c k))
 
+-- "`merge`, `exclude`, `intersect` as union, difference, intersection": `merge`
 abbrev pub Merged : Held → Held → Slices → Slices → Made → Type 0
 Merged a b = Writes (Table a × Table b) (TableOf (union (rows a) (rows b)))
 
+-- `diff`, which is `exclude` of range tables
 abbrev pub Diffed : Held → Held → Slices → Slices → Made → Type 0
 Diffed a b = Writes (Table a × Table b) (TableOf (difference (rows a) (rows b)))
 
+-- `intersect`
 abbrev pub Intersected : Held → Held → Slices → Slices → Made → Type 0
 Intersected a b = Writes (Table a × Table b) (TableOf (intersection (rows a) (rows b)))
 
@@ -80,22 +86,17 @@ Intersected a b = Writes (Table a × Table b) (TableOf (intersection (rows a) (r
 abbrev pub Captured : Held → Slices → Slices → Made → Type 0
 Captured a = Writes (Table a) (λ t. t ≡ rows a)
 
--- membership
+-- "Membership", of a client's clock
 abbrev pub Contains : Held → ℕ → ℕ → Told → Type 0
 Contains a c k r = Tells (Table a) (Says (Holds (rows a) c k)) false (saidTold r)
 
 -- "its `is_empty` says whether it has no row"
-abbrev pub Empty : Held → Told → Type 0
-Empty a r = Tells (Table a) (Says (rows a ≡ [])) false (saidTold r)
+abbrev pub IsEmpty : Held → Told → Type 0
+IsEmpty a r = Tells (Table a) (Says (rows a ≡ [])) false (saidTold r)
 
 -- "its `len` counts clients": how many there are in a strictly rising list of exactly the clients that have a row
-abbrev pub Has : List Row → ℕ → Type 0
-Has [] c = ⊥
-Has (r ∷ rs) c = (c ≡ r .client) ⊎ Has rs c
-
-abbrev pub Among : List ℕ → ℕ → Type 0
-Among [] c = ⊥
-Among (d ∷ ds) c = (c ≡ d) ⊎ Among ds c
+abbrev pub In : List Row → ℕ → Type 0
+In t c = Among (map (λ (r : Row). r .client) t) c
 
 abbrev pub Rising : List ℕ → Type 0
 Rising [] = Unit {0}
@@ -105,7 +106,7 @@ Rising (c ∷ d ∷ ds) = (c < d) × Rising (d ∷ ds)
 pub record Clients (t : List Row) (n : ℕ) : Type 0 where
   pub each : List ℕ
   pub rising : Rising each
-  pub exactly : (c : ℕ) → Among each c ↔ Has t c
+  pub exactly : (c : ℕ) → Among each c ↔ In t c
   pub many : n ≡ length each
 
 abbrev pub Len : Held → Counted → Type 0

@@ -11,7 +11,7 @@ ghost use Rattle.tables.specs.Inner.Edit.{Parted};
 ghost use Rattle.tables.specs.Inner.Sweep.{Holds};
 ghost use Rattle.tables.specs.Inner.Unite.{Counted as Counts};
 ghost use Rattle.ids.specs.Rows.{row};
-ghost use Rattle.ids.specs.Tables.{three, held, room, most, rowsOf, filled, Captured, Merged, Diffed, Intersected, Inserted, Contains, Empty, Clients, Len};
+ghost use Rattle.ids.specs.Tables.{three, held, room, most, rowsOf, filled, Captured, Merged, Diffed, Intersected, Inserted, Contains, IsEmpty, Clients, Len};
 ghost use Rattle.ids.specs.Inner.{numberOf, idRow, NoneEmpty, Apart, idRows, IdTable, Checked, Both, Finished, Picked, Stored, Further, entryAt, startOf, endOf, Earlier, Takes, Open, Joins, final, Shares, Puts, Fresh, marks, Leads, Trails, Shifted, Spliced};
 
 // Whether the id (c, x) comes before the id (d, y).
@@ -242,10 +242,10 @@ pub fn capture(
 }
 
 // A row of a table.
-pub struct Entry {
-    pub client: u64,
-    pub start: u32,
-    pub end: u32,
+struct Entry {
+    client: u64,
+    start: u32,
+    end: u32,
 }
 
 fn row_at(clients: &[u64], starts: &[u32], ends: &[u32], i: usize) -> Entry
@@ -260,12 +260,12 @@ fn row_at(clients: &[u64], starts: &[u32], ends: &[u32], i: usize) -> Entry
 }
 
 // The next row of two tables, and the places behind it.
-pub struct Taken {
-    pub i: usize,
-    pub j: usize,
-    pub client: u64,
-    pub start: u32,
-    pub end: u32,
+struct Taken {
+    i: usize,
+    j: usize,
+    client: u64,
+    start: u32,
+    end: u32,
 }
 
 // Of the rows `i` and `j` the one that starts first, picked without a branch.
@@ -369,9 +369,9 @@ fn further(lc: u64, le: u64, c: u64, y: u32) -> u64
 }
 
 // How many rows are put out, and one more than the end of the last.
-pub struct Added {
-    pub k: usize,
-    pub end: u64,
+struct Added {
+    k: usize,
+    end: u64,
 }
 
 // One row more, which starts where the last of the `k` rows does or behind. What is stored and not counted is written over.
@@ -512,18 +512,18 @@ pub fn merge(
 }
 
 // What a row shares with other places, and what is passed.
-pub struct Shared {
-    pub i: usize,
-    pub j: usize,
-    pub start: u32,
-    pub end: u32,
-    pub on: bool,
+struct Shared {
+    i: usize,
+    j: usize,
+    start: u32,
+    end: u32,
+    on: bool,
 }
 
 // A place among all ids: clients first, then clocks.
-pub struct Spot {
-    pub client: u64,
-    pub clock: u32,
+struct Spot {
+    client: u64,
+    clock: u32,
 }
 
 // What the row x..e shares with g..h, all of one client.
@@ -1034,7 +1034,7 @@ pub fn contains(
 
 // Whether the table has no row.
 pub fn is_empty(clients: &[u64], starts: &[u32], ends: &[u32], count: usize) -> tables::Told
-    ensures { λ r. ⌜ Empty (held (now (clients .entry)) (now (starts .entry)) (now (ends .entry)) count) r ⌝ }
+    ensures { λ r. ⌜ IsEmpty (held (now (clients .entry)) (now (starts .entry)) (now (ends .entry)) count) r ⌝ }
 {
     if !well_formed(clients, starts, ends, count) {
         return tables::Told::Refused(varint::Refusal::Malformed);

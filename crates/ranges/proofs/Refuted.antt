@@ -1,8 +1,8 @@
 -- Wrong programs that the promises exclude: document 01, "How tight the statements are" and "Errors that tempt". Assumes nothing.
-use mathlib.Core.Logic.{_⊎_, inl, inr, ⊎-elim}
-use mathlib.Core.Path.{_≡_, refl, ap, subst}
+use mathlib.Core.Logic.{_⊎_, inl, inr, ⊎-elim, _↔_}
+use mathlib.Core.Path.{_≡_, refl, ap, ap₂, subst}
 use mathlib.Core.List.{List, [], _∷_}
-use Prim.Native.Nat.{ℕ, suc, _-_, _<_}
+use Prim.Native.Nat.{ℕ, _-_, _*_, _≤_, _<_}
 use native.Mathlib.Omega.{arith}
 use lib.ListN.{length, getD}
 use Rattle.varint.specs.declared.Refusal.the-variants.{Full}
@@ -12,78 +12,130 @@ use Rattle.tables.specs.declared.Made.the-variants as made
 use Rattle.tables.specs.declared.Told.the-variants.{Yes}
 use Rattle.tables.proofs.Below as leaves
 use Rattle.tables.proofs.Below.{zeros}
-use Rattle.ranges.specs.Rows.{Row, row, Joined}
-use Rattle.ranges.specs.Tables.{rows, most, flat, filled, Merged, Fills, FromRanges, ContainsClock}
+use Rattle.tables.proofs.Refuted as wrong
+use Rattle.tables.proofs.Refuted.{Tell, Shown, handed-out, padded-tell, padded-behind}
+use Rattle.ranges.specs.Rows.{Row, row, Holds, Joined, TableOf, union, difference, intersection}
+use Rattle.ranges.specs.Tables.{rows, most, Table, flat, filled, Writes, Merged, Excluded, Intersected, Inserted, Removed, Fills, FromRanges, ContainsClock}
 use Rattle.ranges.specs.Tables as fills
-use Rattle.ranges.proofs.Determined.{writes-determined, from-ranges-determined}
+use Rattle.ranges.proofs.Flat.{length-flat}
+use Rattle.ranges.proofs.Determined.{from-ranges-one}
 use Rattle.ranges.proofs.Orders.{apart, apart-refused}
 
--- two empty tables have an empty union
-nothing : Merged [] 0 [] 0 0 [] (made.Rows 0)
-unfolding rows flat
-nothing = done [] ((omega arith, tt), (omega arith, tt)) (tt, λ x. (λ h. absurd h, λ h. ⊎-elim (λ y. y) (λ y. y) h)) (omega arith) refl refl
+-- ## Every routine that writes a table
 
--- the union of nothing and 0..1
-single : Merged [] 0 (0 ∷ 1 ∷ []) 1 2 (0 ∷ 1 ∷ []) (made.Rows 1)
-unfolding rows flat
-single = done (row 0 1 ∷ []) ((omega arith, tt), (omega arith, (omega arith, tt, tt))) ((omega arith, tt, tt), λ x. (λ h. inr h, λ h. ⊎-elim (λ y. absurd y) (λ y. y) h)) (omega arith) refl refl
-
--- what `merge` leaves and answers
-abbrev Merge : Type 0
-Merge = List ℕ → ℕ → List ℕ → ℕ → ℕ → List ℕ × Made
-
-abbrev Meets : Merge → Type 0
-Meets f = (a : List ℕ) (n : ℕ) (b : List ℕ) (m len : ℕ) → Merged a n b m len (f a n b m len .0) (f a n b m len .1)
-
--- a merge that always says FULL
-pub always-full : Meets (λ a n b m len. (filled len [], made.Refused Full)) → ⊥
-always-full h = let e : made.Rows 0 ≡ made.Refused Full = writes-determined 0 nothing (h [] 0 [] 0 0) .0 in let z : _≡_ {A = ℕ} 0 1 = cc in omega arith
-
--- one constant table
-pub constant : (t : List Row) → Meets (λ a n b m len. (filled len t, made.Rows (length t))) → ⊥
-constant t h =
-    let p : made.Rows 0 ≡ made.Rows (length t) = writes-determined 0 nothing (h [] 0 [] 0 0) .0 in
-    let q : made.Rows 1 ≡ made.Rows (length t) = writes-determined 2 single (h [] 0 (0 ∷ 1 ∷ []) 1 2) .0 in
-    let z : _≡_ {A = ℕ} 0 1 = cc in
-    omega arith
-
--- a merge that hands back its left table
-pub left-table : Meets (λ a n b m len. (filled len (rows a n), made.Rows n)) → ⊥
-left-table h =
-    let q : made.Rows 1 ≡ made.Rows 0 = writes-determined 2 single (h [] 0 (0 ∷ 1 ∷ []) 1 2) .0 in
-    let z : _≡_ {A = ℕ} 0 1 = cc in
-    omega arith
-
--- a tail that is not zeroed
-pub tail-left : (x : ℕ) → Merged [] 0 [] 0 1 (suc x ∷ []) (made.Rows 0) → ⊥
+-- the rows of one length that a slice is filled with
+flat-tell : (t u : List Row) → length t ≡ length u → flat t ≡ flat u → t ≡ u
 unfolding flat
-tail-left x (done t o r l e f) = tails t (ap (λ (a : Answer _). a .value) e) f
-  where
-    tails : (t : List Row) → 0 ≡ length t → suc x ∷ [] ≡ filled 1 t → ⊥
-    tails [] p q = let z : suc x ≡ 0 = cc in omega arith
-    tails (r ∷ t) p q = omega arith
-tail-left x (full t o r l e f) = let z : _≡_ {A = ℕ} 0 4 = ap (λ (a : Answer _). a .no) e in omega arith
-tail-left x (malformed n e f) = let z : _≡_ {A = ℕ} 0 5 = ap (λ (a : Answer _). a .no) e in omega arith
+flat-tell [] [] h e = refl
+flat-tell [] (r ∷ u) h e = absurd (omega arith)
+flat-tell (r ∷ t) [] h e = absurd (omega arith)
+flat-tell (r ∷ t) (s ∷ u) h e =
+    let a : r .start ≡ s .start = cc in let b : r .end ≡ s .end = cc in let w : t ≡ u = flat-tell t u (omega arith) (cc) in
+    ap₂ _∷_ (λ i. record { start = a i; end = b i }) w
 
--- touching rows left as they are: an output 0..1, 1..2
-pub not-joined : Merged (0 ∷ 1 ∷ []) 1 (1 ∷ 2 ∷ []) 1 4 (0 ∷ 1 ∷ 1 ∷ 2 ∷ []) (made.Rows 2) → ⊥
-unfolding rows flat
-not-joined (done t o r l e f) = touch t (ap (λ (a : Answer _). a .value) e) (r .0) f
-  where
-    touch : (t : List Row) → 2 ≡ length t → Joined t → 0 ∷ 1 ∷ 1 ∷ 2 ∷ [] ≡ filled 4 t → ⊥
-    touch [] p j q = omega arith
-    touch (a ∷ []) p j q = omega arith
-    touch (a ∷ b ∷ []) p j q = let z : 1 ≡ a .end = cc in let w : 1 ≡ b .start = cc in omega (arith, j .1)
-    touch (a ∷ b ∷ c ∷ t) p j q = omega arith
-not-joined (full t o r l e f) = let z : _≡_ {A = ℕ} 0 4 = ap (λ (a : Answer _). a .no) e in omega arith
-not-joined (malformed n e f) = let z : _≡_ {A = ℕ} 0 5 = ap (λ (a : Answer _). a .no) e in omega arith
+filled-tell : (len : ℕ) → Tell (filled len)
+filled-tell len t u h e = flat-tell t u h (padded-tell len (flat t) (flat u) (omega (arith, length-flat t, length-flat u)) e)
 
--- FULL before MALFORMED: 2..5, 5..7 touch, and there is no room
-pub full-first : Merged (2 ∷ 5 ∷ 5 ∷ 7 ∷ []) 2 [] 0 0 [] (made.Refused Full) → ⊥
+module _ {ok : Type 0} {clocks : ℕ → Type 0} (len : ℕ) {out : List ℕ} where
+  -- FULL before MALFORMED
+  pub full-first : (ok → ⊥) → Writes ok (TableOf clocks) len out (made.Refused Full) → ⊥
+  full-first n = wrong.full-first n refl
+
+  -- an element left behind the rows, be it the spare odd one
+  pub tail-left : (n i : ℕ) → 2 * n ≤ i → 0 < getD out i 0 → Writes ok (TableOf clocks) len out (made.Rows n) → ⊥
+  tail-left n i h l (done t o r m e f) =
+      omega (arith, ap (λ (a : Answer ℕ). a .value) e, length-flat t, ap (λ (x : List ℕ). getD x i 0) f, padded-behind len (flat t) i (omega (arith, ap (λ (a : Answer ℕ). a .value) e, length-flat t)))
+  tail-left n i h l (full t o r m e f) = omega (arith, ap (λ (a : Answer ℕ). a .no) e)
+  tail-left n i h l (malformed m e f) = omega (arith, ap (λ (a : Answer ℕ). a .no) e)
+
+-- rows that are not joined: touching ones, such as 0..1 and 1..2
+pub not-joined : {ok : Type 0} {clocks : ℕ → Type 0} (len : ℕ) (t : List Row) → (Joined t → ⊥) → Writes ok (TableOf clocks) len (filled len t) (made.Rows (length t)) → ⊥
+not-joined len t n h = n (handed-out (filled-tell len) t refl refl h .0)
+
+module _ {I : Type 0} {P : I → ℕ → List ℕ → Made → Type 0} {left : I → List Row} (s : Shown most filled P left) where
+  -- one that always says FULL
+  pub always-full : ((i : I) (len : ℕ) → P i len (filled len []) (made.Refused Full)) → ⊥
+  always-full = wrong.always-full filled-tell s
+
+  -- one constant table
+  pub constant : (t : List Row) → ((i : I) (len : ℕ) → P i len (filled len t) (made.Rows (length t))) → ⊥
+  constant = wrong.constant filled-tell s
+
+  -- one that hands back its left table
+  pub left-table : ((i : I) (len : ℕ) → P i len (filled len (left i)) (made.Rows (length (left i)))) → ⊥
+  left-table = wrong.handed-back filled-tell s
+
+-- shown by an input whose result is empty, one whose result has clock 0, and one whose left table is wrong at clock 0
+module _ {I : Type 0} {P : I → ℕ → List ℕ → Made → Type 0} {left : I → List Row} (ok : I → Type 0) (clocks : I → ℕ → Type 0)
+    (is : (i : I) (len : ℕ) (out : List ℕ) (r : Made) → P i len out r → Writes (ok i) (TableOf (clocks i)) len out r) where
+  shown : (none some other : I) → ((x : ℕ) → clocks none x → ⊥) → clocks some 0 → (Holds (left other) 0 ↔ clocks other 0 → ⊥) → Shown most filled P left
+  shown none some other e f g =
+      record {
+        ok = ok;
+        right = λ i. TableOf (clocks i);
+        is = λ i len p. is i len _ _ p;
+        small = none;
+        room = 0;
+        fits = empty;
+        one = some;
+        two = none;
+        apart = λ t p q. e 0 (q .1 0 .0 (p .1 0 .1 f));
+        other = other;
+        stale = λ p. g (p .1 0);
+      }
+    where
+      empty : (t : List Row) → TableOf (clocks none) t → length t ≤ most 0
+      empty [] p = omega arith
+      empty (r ∷ t) p = absurd (e (r .start) (p .1 (r .start) .0 (inl (omega arith, p .0 .0))))
+
+abbrev Two : Type 0
+Two = List ℕ × ℕ × List ℕ × ℕ
+
+abbrev Edit : Type 0
+Edit = List ℕ × ℕ × ℕ × ℕ
+
+-- the range 0..1
+abbrev one : List ℕ
+one = 0 ∷ 1 ∷ []
+
+in-one : Holds (row 0 1 ∷ []) 0
+in-one = inl (omega arith, omega arith)
+
+in-none : (x : ℕ) → Holds (row 0 0 ∷ []) x → ⊥
+in-none x (inl h) = omega arith
+in-none x (inr h) = h
+
+pub merging : Shown most filled (λ (i : Two). Merged (i .0) (i .1) (i .2) (i .3)) (λ i. rows (i .0) (i .1))
 unfolding rows
-full-first (done t o r l e f) = let z : _≡_ {A = ℕ} 4 0 = ap (λ (a : Answer _). a .no) e in omega arith
-full-first (full t o r l e f) = omega (arith, o .0 .1 .1)
-full-first (malformed n e f) = let z : _≡_ {A = ℕ} 4 5 = ap (λ (a : Answer _). a .no) e in omega arith
+merging = shown (λ i. Table (i .0) (i .1) × Table (i .2) (i .3)) (λ i. union (rows (i .0) (i .1)) (rows (i .2) (i .3))) (λ i len out r p. p)
+    ([], 0, [], 0) ([], 0, one, 1) ([], 0, one, 1) (λ x. ⊎-elim (λ h. h) (λ h. h)) (inr in-one) (λ h. h .1 (inr in-one))
+
+pub excluding : Shown most filled (λ (i : Two). Excluded (i .0) (i .1) (i .2) (i .3)) (λ i. rows (i .0) (i .1))
+unfolding rows
+excluding = shown (λ i. Table (i .0) (i .1) × Table (i .2) (i .3)) (λ i. difference (rows (i .0) (i .1)) (rows (i .2) (i .3))) (λ i len out r p. p)
+    ([], 0, [], 0) (one, 1, [], 0) (one, 1, one, 1) (λ x h. h .0) (in-one, λ h. h) (λ h. h .0 in-one .1 in-one)
+
+pub intersecting : Shown most filled (λ (i : Two). Intersected (i .0) (i .1) (i .2) (i .3)) (λ i. rows (i .0) (i .1))
+unfolding rows
+intersecting = shown (λ i. Table (i .0) (i .1) × Table (i .2) (i .3)) (λ i. intersection (rows (i .0) (i .1)) (rows (i .2) (i .3))) (λ i len out r p. p)
+    ([], 0, [], 0) (one, 1, one, 1) (one, 1, [], 0) (λ x h. h .0) (in-one, in-one) (λ h. h .0 in-one .1)
+
+pub inserting : Shown most filled (λ (i : Edit). Inserted (i .0) (i .1) (i .2) (i .3)) (λ i. rows (i .0) (i .1))
+unfolding rows
+inserting = shown (λ i. Table (i .0) (i .1)) (λ i. union (rows (i .0) (i .1)) (row (i .2) (i .3) ∷ [])) (λ i len out r p. p)
+    ([], 0, 0, 0) ([], 0, 0, 1) ([], 0, 0, 1) (λ x. ⊎-elim (λ h. h) (in-none x)) (inr in-one) (λ h. h .1 (inr in-one))
+
+pub removing : Shown most filled (λ (i : Edit). Removed (i .0) (i .1) (i .2) (i .3)) (λ i. rows (i .0) (i .1))
+unfolding rows
+removing = shown (λ i. Table (i .0) (i .1)) (λ i. difference (rows (i .0) (i .1)) (row (i .2) (i .3) ∷ [])) (λ i len out r p. p)
+    ([], 0, 0, 0) (one, 1, 0, 0) (one, 1, 0, 1) (λ x h. h .0) (in-one, in-none 0) (λ h. h .0 in-one .1 in-one)
+
+-- ## Each for itself
+
+-- "Rows [2..5, 5..7] as input: MALFORMED."
+pub touching : Table (2 ∷ 5 ∷ 5 ∷ 7 ∷ []) 2 → ⊥
+unfolding rows
+touching t = omega (arith, t .1 .1)
 
 -- `end` taken as the last clock included
 pub end-included : ContainsClock (2 ∷ 5 ∷ []) 1 5 Yes → ⊥
@@ -94,7 +146,7 @@ end-included (refuses n e) = let z : _≡_ {A = ℕ} 0 5 = ap (λ (a : Answer _)
 -- a `from_ranges` that looks only at the last table
 pub last-only : FromRanges apart 3 2 (0 ∷ 5 ∷ []) (made.Rows 1) → ⊥
 last-only h =
-    let e : made.Refused Full ≡ made.Rows 1 = from-ranges-determined apart 3 2 _ _ _ _ apart-refused h .0 in
+    let e : made.Refused Full ≡ made.Rows 1 = from-ranges-one apart 3 2 _ _ _ _ apart-refused h .0 in
     let z : _≡_ {A = ℕ} 0 1 = cc in
     omega arith
 

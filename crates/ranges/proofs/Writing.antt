@@ -26,7 +26,7 @@ use Rattle.ranges.proofs.Flat.{rows-plain, flat-rows, ruled-table, tabl
 
 pub filled-none : (len : ℕ) → replicate len 0 ≡ filled len []
 unfolding flat
-filled-none len = ap (λ (n : ℕ). replicate n 0) (let e : len ≡ len - 2 * 0 = omega arith in e)
+filled-none len = ap (λ (n : ℕ). replicate n 0) (let e : len ≡ len - 0 = omega arith in e)
 
 -- ## What finish leaves
 
@@ -42,7 +42,7 @@ held l k rs h p =
     let c : length rs ≡ k = sym (ap length e) ∙ length-span (rowAt l) 0 k in
     let d : map bare rs ≡ rows l k = ap (λ (t : inner.Rows). map bare t) (sym (rows-plain l k (omega arith) ∙ e)) ∙ bare-plain (rows l k) in
     let g : take (2 * k) l ≡ flat (map bare rs) = sym (ap flat d ∙ flat-rows l k (omega arith)) in
-    (c, ap₂ (λ (x : List ℕ) (y : ℕ). x ++ replicate (length l - 2 * y) 0) g (sym (length-map rs bare ∙ c)))
+    (c, ap₂ (λ (x : List ℕ) (y : ℕ). x ++ replicate (length l - y) 0) g (let z : 2 * k ≡ length (flat (map bare rs)) = omega (arith, length-flat (map bare rs), length-map rs bare) in z))
 
 pub wrote-done : (l out : List ℕ) (k : ℕ) → k ≤ most (length l) → out ≡ take (2 * k) l ++ replicate (length l - 2 * k) 0
     → (rs : inner.Rows) → Holds (most (length l)) (rowAt l) k rs → Wrote rs (length l) out (made.Rows k)
@@ -78,7 +78,7 @@ gives-combined {f} {P} {a} {b} {n} {m} {len} {out} {r} s p q w =
 pub written : (len : ℕ) (t : List Row) → reader.Joined t → length t ≤ most len → Table (filled len t) (length t) × (rows (filled len t) (length t) ≡ t)
 written len t j h =
     let e : rows (filled len t) (length t) ≡ t = read-flat t _ in (
-      (omega (arith, length-append (flat t) (replicate (len - 2 * length t) 0), length-flat t, length-replicate {A = ℕ} (len - 2 * length t) 0), subst (λ (u : List Row). reader.Joined u) (sym e) j),
+      (omega (arith, length-append (flat t) (replicate (len - length (flat t)) 0), length-flat t, length-replicate {A = ℕ} (len - length (flat t)) 0), subst (λ (u : List Row). reader.Joined u) (sym e) j),
       e,
     )
 

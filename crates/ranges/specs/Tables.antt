@@ -1,14 +1,14 @@
 -- Range tables in lent slices, and what each routine promises. Document 01, "Tables", "Refusal numbers" and "Range operations".
 use mathlib.Core.Path.{_≡_}
-use mathlib.Core.List.{List, [], _∷_, _++_}
+use mathlib.Core.List.{List, [], _∷_}
 use mathlib.Core.Bool.{false}
 use mathlib.Core.Option.{Option, none, some}
-use Prim.Native.Nat.{ℕ, zero, suc, _-_, _*_, _/_, _≤_, _<_, min}
-use lib.ListN.{length, replicate}
+use Prim.Native.Nat.{ℕ, zero, suc, _/_, _≤_, _<_, min}
+use lib.ListN.{length}
 use Rattle.varint.specs.Answer.{noOf}
 use Rattle.varint.specs.declared.Refusal.the-variants.{Full, Malformed}
 use Rattle.tables.specs.Limits.{rowLimit}
-use Rattle.tables.specs.Answers.{Answer, answer, Gives, Tells, Says, saidMade, saidTold, saidCounted}
+use Rattle.tables.specs.Answers.{Answer, answer, padded, Gives, Tells, Says, saidMade, saidTold, saidCounted}
 use Rattle.tables.specs.declared.Made.{Made}
 use Rattle.tables.specs.declared.Told.{Told}
 use Rattle.tables.specs.declared.Counted.{Counted}
@@ -31,7 +31,7 @@ rows (s ∷ e ∷ l) (suc n) = row s e ∷ rows l n
 abbrev pub most : ℕ → ℕ
 most len = min rowLimit (len / 2)
 
--- well formed
+-- "Well formed: n at most 1,024 and at most half the slice's length rounded down; each start < end; each end < the next start."
 abbrev pub Table : List ℕ → ℕ → Type 0
 Table l n = (n ≤ most (length l)) × Joined (rows l n)
 
@@ -42,23 +42,26 @@ flat (r ∷ rs) = r .start ∷ r .end ∷ flat rs
 
 -- "the new table fills the front of the output and every later element of each output slice is zero, a spare odd element too"
 abbrev pub filled : ℕ → List Row → List ℕ
-filled len t = flat t ++ replicate (len - 2 * length t) 0
+filled len t = padded len (flat t)
 
--- a routine that reads tables and writes another one into a slice of len elements
+-- "An operation reads its tables and writes another one": into a slice of len elements
 abbrev pub Writes : Type 0 → (List Row → Type 0) → ℕ → List ℕ → Made → Type 0
 Writes ok right len out r = Gives ok right (most len) (filled len) out (saidMade r)
 
--- "`merge`, `exclude`, `intersect` as union, difference, intersection"
+-- "`merge`, `exclude`, `intersect` as union, difference, intersection": `merge`
 abbrev pub Merged : List ℕ → ℕ → List ℕ → ℕ → ℕ → List ℕ → Made → Type 0
 Merged a n b m = Writes (Table a n × Table b m) (TableOf (union (rows a n) (rows b m)))
 
+-- `exclude`
 abbrev pub Excluded : List ℕ → ℕ → List ℕ → ℕ → ℕ → List ℕ → Made → Type 0
 Excluded a n b m = Writes (Table a n × Table b m) (TableOf (difference (rows a n) (rows b m)))
 
+-- `intersect`
 abbrev pub Intersected : List ℕ → ℕ → List ℕ → ℕ → ℕ → List ℕ → Made → Type 0
 Intersected a n b m = Writes (Table a n × Table b m) (TableOf (intersection (rows a n) (rows b m)))
 
--- "An insert or remove with start >= end gives the same table": such a range holds no clock
+-- "`insert`; `remove`": the clocks of the table and those of the range, or without them. "An insert or remove with start >= end gives the same table": such a
+-- range holds no clock
 abbrev pub Inserted : List ℕ → ℕ → ℕ → ℕ → ℕ → List ℕ → Made → Type 0
 Inserted l n s e = Writes (Table l n) (TableOf (union (rows l n) (row s e ∷ [])))
 
@@ -102,20 +105,24 @@ saidFound (found.Refused e) = answer (noOf e) none
 abbrev pub ContainsClock : List ℕ → ℕ → ℕ → Told → Type 0
 ContainsClock l n x r = Tells (Table l n) (Says (Holds (rows l n) x)) false (saidTold r)
 
+-- "`find_start` (first row whose end exceeds the clock, or none)"
 abbrev pub FindStart : List ℕ → ℕ → ℕ → Place → Type 0
 FindStart l n x r = Tells (Table l n) (λ v. v ≡ findStart (rows l n) x) none (saidPlace r)
 
+-- "`clock_start` and `clock_end` (first start, last end, none if empty)"
 abbrev pub ClockStart : List ℕ → ℕ → Edge → Type 0
 ClockStart l n r = Tells (Table l n) (λ v. v ≡ clockStart (rows l n)) none (saidEdge r)
 
 abbrev pub ClockEnd : List ℕ → ℕ → Edge → Type 0
 ClockEnd l n r = Tells (Table l n) (λ v. v ≡ clockEnd (rows l n)) none (saidEdge r)
 
+-- "`len`, `is_empty`"
 abbrev pub Len : List ℕ → ℕ → Counted → Type 0
 Len l n r = Tells (Table l n) (λ v. v ≡ length (rows l n)) 0 (saidCounted r)
 
 abbrev pub IsEmpty : List ℕ → ℕ → Told → Type 0
 IsEmpty l n r = Tells (Table l n) (Says (rows l n ≡ [])) false (saidTold r)
 
+-- "`get` (the row at an index, none past the last)"
 abbrev pub Get : List ℕ → ℕ → ℕ → Found → Type 0
 Get l n i r = Tells (Table l n) (λ v. v ≡ get (rows l n) i) none (saidFound r)

@@ -9,7 +9,7 @@ use Rattle.tables.specs.declared.Made.{Made}
 use Rattle.varint.specs.Number.{Written, writeAt}
 use Rattle.varint.specs.declared.Wrote.{Wrote}
 use Rattle.state_vector.specs.Rows.{Row, at, Rising, SetMin, SetMax, Merge, Compare}
-use Rattle.state_vector.specs.Vectors.{Slices, Held, rows, most, Table, Gets, MinSet, MaxSet, Merged, Compared}
+use Rattle.state_vector.specs.Vectors.{Slices, Held, rows, most, Table, Get, MinSet, MaxSet, Merged, Compared}
 use Rattle.state_vector.specs.Bytes as bytes
 use Rattle.state_vector.specs.Bytes.{encoded, Encodes, writes, Encoded}
 use Rattle.state_vector.specs.declared.Got.{Got}
@@ -31,7 +31,7 @@ one s = record { rules = (table s, table (back s)); same = s .alike .same }
 -- ## Each routine that reads a vector
 
 module _ {a b : Held} (s : Below a b) where
-  pub get-below : (c : ℕ) (r : Got) → Gets a c r ↔ Gets b c r
+  pub get-below : (c : ℕ) (r : Got) → Get a c r ↔ Get b c r
   get-below c r = tells-below (λ t k. k ≡ at t c) (one s)
 
   pub set-min-below : (c k : ℕ) (o out : Slices) (r : Made) → MinSet a c k o out r ↔ MinSet b c k o out r

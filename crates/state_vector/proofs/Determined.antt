@@ -1,20 +1,24 @@
--- Each routine's statement determines its answer and what is left in the lent memory. Assumes nothing.
+-- The contract of each public routine determines its answer and every element of the lent memory: any two results of one call coincide. `Learnt` is what a
+-- caller learns, as Rattle reads the `ensures`, so a weaker `ensures` breaks the theorem. Assumes nothing.
 use mathlib.Core.Path.{_≡_, refl, ap, ap₂, sym, subst, _∙_}
 use mathlib.Core.List.{List}
 use Prim.Native.Nat.{ℕ}
 use native.Mathlib.Omega.{arith}
 use lib.ListN.{length}
+use denote.Ref.{RefT, now}
 use Rattle.varint.specs.Answer.{wrote}
 use Rattle.varint.specs.declared.Wrote.{Wrote}
+use Rattle.varint.proofs.Determining.{Answers, Settles}
 use Rattle.varint.proofs.Determined.{writers-determined}
 use Rattle.tables.specs.Answers as answers
 use Rattle.tables.specs.declared.Made.{Made}
-use Rattle.tables.proofs.Giving.{One, gives-determined, tells-determined}
+use Rattle.tables.proofs.Determined.{made-one}
+use Rattle.tables.proofs.Giving.{One, tells-determined}
 use Rattle.state_vector.specs.Rows.{Row, In, at, VectorOf, Verdict, less, equal, greater, none, Compare}
-use Rattle.state_vector.specs.Vectors.{Slices, Held, filled, saidGot, Gets, MinSet, MaxSet, Merged, saidOrder, Compared}
+use Rattle.state_vector.specs.Vectors.{Slices, two, Held, filled, Writes, saidGot, Get, saidOrder, Compared}
 use Rattle.state_vector.specs.Bytes as bytes
 use Rattle.state_vector.specs.Bytes.{Encoded, Encodes, Decoding, saidDecoded, Decodes}
-use Rattle.tables.proofs.Viewing.{Undone, view-same, byNo, refused-back, made-same}
+use Rattle.tables.proofs.Viewing.{Undone, view-same, byNo, refused-back}
 use Rattle.state_vector.specs.declared.Got.{Got}
 use Rattle.state_vector.specs.declared.Got.the-variants as got
 use Rattle.state_vector.specs.declared.Order.{Order}
@@ -22,6 +26,15 @@ use Rattle.state_vector.specs.declared.Order.the-variants as order
 use Rattle.state_vector.specs.declared.Decoded.{Decoded}
 use Rattle.state_vector.specs.declared.Decoded.the-variants as decoded
 use Rattle.state_vector.proofs.Looking.{vector-one}
+use Rattle.state_vector.proofs.get.Reads as get
+use Rattle.state_vector.proofs.set_min.Reads as set-min
+use Rattle.state_vector.proofs.set_max.Reads as set-max
+use Rattle.state_vector.proofs.merge.Reads as merge
+use Rattle.state_vector.proofs.partial_cmp.Reads as partial-cmp
+use Rattle.state_vector.proofs.encode.Reads as encode
+use Rattle.state_vector.proofs.decode.Reads as decode
+
+-- ## The laws: any two results that a statement allows coincide
 
 compare-one : (a b : List Row) → One (Compare a b)
 compare-one a b less less p q = refl
@@ -80,27 +93,18 @@ decoded-same place r s e = view-same said (byNo done decoded.Refused) back r s (
     back (decoded.Done n p) = refl
     back (decoded.Refused e) = refused-back done decoded.Refused e (bytes.decoding 0 0 place)
 
-pub get-determined : (a : Held) (c : ℕ) (r s : Got) → Gets a c r → Gets a c s → r ≡ s
-get-determined a c r s p q = got-same r s (tells-determined (λ t u e f. e ∙ sym f) p q)
+pub got-one : (a : Held) (c : ℕ) (r s : Got) → Get a c r → Get a c s → r ≡ s
+got-one a c r s p q = got-same r s (tells-determined (λ t u e f. e ∙ sym f) p q)
 
-pub partial-cmp-determined : (a b : Held) (r s : Order) → Compared a b r → Compared a b s → r ≡ s
-partial-cmp-determined a b r s p q = order-same r s (tells-determined (compare-one _ _) p q)
+pub compared-one : (a b : Held) (r s : Order) → Compared a b r → Compared a b s → r ≡ s
+compared-one a b r s p q = order-same r s (tells-determined (compare-one _ _) p q)
 
-module _ (o out out′ : Slices) (r s : Made) where
-  made-one : (answers.saidMade r ≡ answers.saidMade s) × (out ≡ out′) → (r ≡ s) × (out ≡ out′)
-  made-one e = (made-same r s (e .0), e .1)
+pub writes-one : {ok : Type 0} {clients : ℕ → Type 0} {clock : ℕ → ℕ} (o : Slices) {out out′ : Slices} {r s : Made}
+    → Writes ok (VectorOf clients clock) o out r → Writes ok (VectorOf clients clock) o out′ s → (r ≡ s) × (out ≡ out′)
+writes-one o {out} {out′} {r} {s} p q = made-one r s vector-one p q
 
-  pub set-min-determined : (a : Held) (c k : ℕ) → MinSet a c k o out r → MinSet a c k o out′ s → (r ≡ s) × (out ≡ out′)
-  set-min-determined a c k p q = made-one (gives-determined vector-one p q)
-
-  pub set-max-determined : (a : Held) (c k : ℕ) → MaxSet a c k o out r → MaxSet a c k o out′ s → (r ≡ s) × (out ≡ out′)
-  set-max-determined a c k p q = made-one (gives-determined vector-one p q)
-
-  pub merge-determined : (a b : Held) → Merged a b o out r → Merged a b o out′ s → (r ≡ s) × (out ≡ out′)
-  merge-determined a b p q = made-one (gives-determined vector-one p q)
-
-pub encode-determined : (a : Held) (buf : List ℕ) (place : ℕ) (r s : Wrote) (after after′ : List ℕ) → Encoded a buf place r after → Encoded a buf place s after′ → (r ≡ s) × (after ≡ after′)
-encode-determined a buf place r s after after′ p q = writers-determined place r s after after′ refl (same p q)
+pub written-one : (a : Held) (buf : List ℕ) (place : ℕ) (r s : Wrote) (after after′ : List ℕ) → Encoded a buf place r after → Encoded a buf place s after′ → (r ≡ s) × (after ≡ after′)
+written-one a buf place r s after after′ p q = writers-determined place r s after after′ refl (same p q)
   where
     same : Encodes a buf place (wrote place r after) → Encodes a buf place (wrote place s after′) → wrote place s after′ ≡ wrote place r after
     same (bytes.writes t e) (bytes.writes u f) = f ∙ sym e
@@ -120,6 +124,33 @@ decodings bs place o out out′ d d′ (bytes.refused n e f g) (bytes.refused n�
     let x : n ≡ n′ = cc in
     (f ∙ ap (λ (w : ℕ). bytes.decoding w 0 place) x ∙ sym f′, g ∙ sym g′)
 
-pub decode-determined : (bs : List ℕ) (place : ℕ) (o out out′ : Slices) (r s : Decoded) → Decodes bs place o out (saidDecoded place r) → Decodes bs place o out′ (saidDecoded place s)
+pub decoded-one : (bs : List ℕ) (place : ℕ) (o out out′ : Slices) (r s : Decoded) → Decodes bs place o out (saidDecoded place r) → Decodes bs place o out′ (saidDecoded place s)
     → (r ≡ s) × (out ≡ out′)
-decode-determined bs place o out out′ r s p q = let e = decodings bs place o out out′ (saidDecoded place r) (saidDecoded place s) p q in (decoded-same place r s (e .0), e .1)
+decoded-one bs place o out out′ r s p q = let e = decodings bs place o out out′ (saidDecoded place r) (saidDecoded place s) p q in (decoded-same place r s (e .0), e .1)
+
+-- two slices lent one after another
+abbrev twoAt : {A : Type 0} → RefT (List ℕ) × (RefT (List ℕ) × A) → Slices
+twoAt y = two (now (y .0)) (now (y .1 .0))
+
+-- ## Each routine
+
+pub get-determined : Answers get.Learnt
+get-determined κ x r s y z = got-one _ _ r s
+
+pub partial-cmp-determined : Answers partial-cmp.Learnt
+partial-cmp-determined κ x r s y z = compared-one _ _ r s
+
+pub set-min-determined : Settles set-min.Learnt (λ κ y. twoAt (y .1 .1 .1 .1 .1))
+set-min-determined κ x r s y z = writes-one (twoAt (x .1 .1 .1 .1 .1))
+
+pub set-max-determined : Settles set-max.Learnt (λ κ y. twoAt (y .1 .1 .1 .1 .1))
+set-max-determined κ x r s y z = writes-one (twoAt (x .1 .1 .1 .1 .1))
+
+pub merge-determined : Settles merge.Learnt (λ κ y. twoAt (y .1 .1 .1 .1 .1 .1))
+merge-determined κ x r s y z = writes-one (twoAt (x .1 .1 .1 .1 .1 .1))
+
+pub encode-determined : Settles encode.Learnt (λ κ y. now (y .1 .1 .1 .0))
+encode-determined κ x r s y z = written-one _ _ _ r s _ _
+
+pub decode-determined : Settles decode.Learnt (λ κ y. twoAt (y .1 .1))
+decode-determined κ x r s y z = decoded-one _ _ _ _ _ r s

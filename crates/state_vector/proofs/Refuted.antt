@@ -1,33 +1,90 @@
 -- Wrong programs that the promises exclude: document 01, "How tight the statements are" and "Errors that tempt". Assumes nothing.
-use mathlib.Core.Path.{_≡_, refl, ap, sym, subst, _∙_}
-use mathlib.Core.List.{List, [], _∷_, append-nil}
-use Prim.Native.Nat.{ℕ, zero, suc, _+_, _-_, _^_, _≤_, _<_}
+use mathlib.Core.Path.{_≡_, refl, ap, ap₂, sym, subst, _∙_}
+use mathlib.Core.Logic.{_⊎_, inl, inr, ⊎-elim}
+use mathlib.Core.Bool.{cond}
+use mathlib.Core.List.{List, [], _∷_, map, append-nil}
+use Prim.Native.Nat.{ℕ, zero, suc, _+_, _-_, _^_, _≤_, _<_, max}
 use native.Mathlib.Omega.{arith}
-use borrow.Author.Tests.{eqb-false}
-use lib.ListN.{length, getD, replicate, length-replicate}
+use borrow.Author.Tests.{eqb-false, ne-eqb, lt-leb}
+use lib.Dec.{eqb}
+use lib.ListN.{length, getD, replicate, length-replicate, length-map}
+use Rattle.varint.specs.Number as number
+use Rattle.varint.specs.Number.{andThen, readAt, Written}
 use Rattle.varint.specs.Answer.{noOf}
 use Rattle.varint.specs.declared.Refusal.{Refusal}
-use Rattle.varint.specs.declared.Refusal.the-variants.{Full}
-use Rattle.varint.proofs.Chaining.{refuses}
-use Rattle.tables.specs.Answers.{done, says}
+use Rattle.varint.specs.declared.Refusal.the-variants.{Full, Malformed}
+use Rattle.varint.specs.declared.Wrote.the-variants as answer
+use Rattle.varint.proofs.Chaining as chaining
+use Rattle.varint.proofs.Chaining.{unput}
+use Rattle.tables.specs.Answers.{Answer, padded, done, full, malformed, says, refuses}
 use Rattle.tables.specs.declared.Made.{Made}
 use Rattle.tables.specs.declared.Made.the-variants as made
 use Rattle.tables.proofs.Below.{refusal-leaves, zeros}
-use Rattle.state_vector.specs.Rows.{Row, row}
-use Rattle.state_vector.specs.Vectors.{Slices, two, Held, held, rows, most, Table, filled, Writes, MinSet, Merged, Compared}
+use Rattle.tables.proofs.Refuted as wrong
+use Rattle.tables.proofs.Refuted.{Tell, Shown, padded-tell, padded-behind}
+use Rattle.state_vector.specs.Rows.{Row, row, In, at, VectorOf, smaller}
+use Rattle.state_vector.specs.Vectors.{Slices, two, Held, held, rows, most, Table, filled, Writes, MinSet, MaxSet, Merged, Compared}
 use Rattle.state_vector.specs.Bytes as bytes
-use Rattle.state_vector.specs.Bytes.{encoded, stored, read, vectorAt, Decoding, saidDecoded, Decodes}
+use Rattle.state_vector.specs.Bytes.{encoded, Encoded, stored, read, stop, pairsAt, vectorAt, Decoding, saidDecoded, Decodes}
 use Rattle.state_vector.specs.Inner.{put}
 use Rattle.state_vector.specs.declared.Decoded.the-variants as decoded
 use Rattle.state_vector.specs.declared.Order.{Order}
 use Rattle.state_vector.specs.declared.Order.the-variants as order
-use Rattle.state_vector.proofs.Looking.{look, set-right, merge-right}
+use Rattle.state_vector.proofs.Looking.{set-right}
 use Rattle.state_vector.proofs.Decoding.{stored-ways}
-use Rattle.state_vector.proofs.Determined.{set-min-determined, merge-determined, partial-cmp-determined, decode-determined}
+use Rattle.state_vector.proofs.Determined.{writes-one, compared-one, decoded-one}
 use Rattle.state_vector.proofs.Encoding.{Words}
 use Rattle.state_vector.proofs.RoundTrip.{stores, Fitting, vector-read}
 
--- ## Right answers to hold wrong ones against
+-- ## Every routine that writes a vector
+
+-- rows by their columns
+columns-tell : (t u : List Row) → length t ≡ length u → map (λ (r : Row). r .client) t ≡ map (λ (r : Row). r .client) u → map (λ (r : Row). r .clock) t ≡ map (λ (r : Row). r .clock) u → t ≡ u
+columns-tell [] [] h a b = refl
+columns-tell [] (r ∷ u) h a b = absurd (omega arith)
+columns-tell (r ∷ t) [] h a b = absurd (omega arith)
+columns-tell (r ∷ t) (s ∷ u) h a b =
+    let x : r .client ≡ s .client = cc in
+    let y : r .clock ≡ s .clock = cc in
+    ap₂ _∷_ (λ i. record { client = x i; clock = y i }) (columns-tell t u (omega arith) (cc) (cc))
+
+filled-tell : (o : Slices) → Tell (λ t. filled t o)
+filled-tell o t u h e = columns-tell t u h
+    (column (λ (r : Row). r .client) (length (o .clients)) (ap (λ (s : Slices). s .clients) e))
+    (column (λ (r : Row). r .clock) (length (o .clocks)) (ap (λ (s : Slices). s .clocks) e))
+  where
+    column : (f : Row → ℕ) (n : ℕ) → padded n (map f t) ≡ padded n (map f u) → map f t ≡ map f u
+    column f n = padded-tell n (map f t) (map f u) (length-map t f ∙ h ∙ sym (length-map u f))
+
+module _ {ok : Type 0} {right : List Row → Type 0} (o : Slices) {out : Slices} where
+  -- FULL before MALFORMED
+  pub full-first : (ok → ⊥) → Writes ok right o out (made.Refused Full) → ⊥
+  full-first n = wrong.full-first n refl
+
+  -- what stands behind the rows
+  pub zeroed : (n i : ℕ) → n ≤ i → Writes ok right o out (made.Rows n) → (getD (out .clients) i 0 ≡ 0) × (getD (out .clocks) i 0 ≡ 0)
+  zeroed n i h (done t k r m e f) = (
+    ap (λ (s : Slices). getD (s .clients) i 0) f ∙ behind (λ (r : Row). r .client) (length (o .clients)),
+    ap (λ (s : Slices). getD (s .clocks) i 0) f ∙ behind (λ (r : Row). r .clock) (length (o .clocks)),
+  )
+    where
+      behind : (f : Row → ℕ) (len : ℕ) → getD (padded len (map f t)) i 0 ≡ 0
+      behind f len = padded-behind len (map f t) i (omega (arith, length-map t f, ap (λ (a : Answer ℕ). a .value) e))
+  zeroed n i h (full t k r m e f) = absurd (omega (arith, ap (λ (a : Answer ℕ). a .no) e))
+  zeroed n i h (malformed m e f) = absurd (omega (arith, ap (λ (a : Answer ℕ). a .no) e))
+
+module _ {I : Type 0} {P : I → Slices → Slices → Made → Type 0} {left : I → List Row} (s : Shown most (λ o t. filled t o) P left) where
+  -- one that always says FULL
+  pub always-full : ((i : I) (o : Slices) → P i o (filled [] o) (made.Refused Full)) → ⊥
+  always-full = wrong.always-full filled-tell s
+
+  -- one constant table
+  pub constant : (t : List Row) → ((i : I) (o : Slices) → P i o (filled t o) (made.Rows (length t))) → ⊥
+  constant = wrong.constant filled-tell s
+
+  -- one that hands back its left table
+  pub left-table : ((i : I) (o : Slices) → P i o (filled (left i) o) (made.Rows (length (left i)))) → ⊥
+  left-table = wrong.handed-back filled-tell s
 
 abbrev empty : Held
 empty = held [] [] 0
@@ -35,61 +92,71 @@ empty = held [] [] 0
 abbrev one : ℕ → ℕ → Held
 one c k = held (c ∷ []) (k ∷ []) 1
 
+-- room for one row
+abbrev spot : Slices
+spot = two (0 ∷ []) (0 ∷ [])
+
+-- a vector of client 1 at most
+only-one : {clients : ℕ → Type 0} {clock : ℕ → ℕ} → ((c : ℕ) → clients c → c ≡ 1) → (t : List Row) → VectorOf clients clock t → length t ≤ most spot
+only-one f [] v = omega arith
+only-one f (r ∷ []) v = omega arith
+only-one f (r ∷ s ∷ t) v = absurd (omega (arith, v .rising .0, f (r .client) (v .keys (r .client) .0 (inl refl)), f (s .client) (v .keys (s .client) .0 (inr (inl refl)))))
+
+-- shown by client 1: an input whose result has no other client, one whose result has it, one whose result has it not, and one whose left table has it not
+module _ {I : Type 0} {P : I → Slices → Slices → Made → Type 0} {left : I → List Row} (ok : I → Type 0) (clients : I → ℕ → Type 0) (clock : I → ℕ → ℕ)
+    (is : (i : I) (o out : Slices) (r : Made) → P i o out r → Writes (ok i) (VectorOf (clients i) (clock i)) o out r) where
+  shown : (small some none other : I) → ((c : ℕ) → clients small c → c ≡ 1) → clients some 1 → (clients none 1 → ⊥) → clients other 1 → (In (left other) 1 → ⊥)
+      → Shown most (λ o t. filled t o) P left
+  shown small some none other f a b c d =
+      record {
+        ok = ok;
+        right = λ i. VectorOf (clients i) (clock i);
+        is = λ i o p. is i o _ _ p;
+        small = small;
+        room = spot;
+        fits = only-one f;
+        one = some;
+        two = none;
+        apart = λ t p q. b (q .keys 1 .0 (p .keys 1 .1 a));
+        other = other;
+        stale = λ p. d (p .keys 1 .1 c);
+      }
+
+abbrev Setting : Type 0
+Setting = Held × ℕ × ℕ
+
+pub setting-min : Shown most (λ o t. filled t o) (λ (i : Setting). MinSet (i .0) (i .1) (i .2)) (λ i. rows (i .0))
+setting-min = shown (λ i. Table (i .0)) (λ i d. In (rows (i .0)) d ⊎ (d ≡ i .1)) (λ i d. cond (eqb d (i .1)) (smaller (rows (i .0)) (i .1) (i .2)) (at (rows (i .0)) d)) (λ i o out r p. p)
+    (empty, 1, 0) (empty, 1, 0) (empty, 2, 0) (empty, 1, 0) (λ d. ⊎-elim (λ h. absurd h) (λ e. e)) (inr refl) (⊎-elim (λ h. h) (λ e. omega arith)) (inr refl) (λ h. h)
+
+pub setting-max : Shown most (λ o t. filled t o) (λ (i : Setting). MaxSet (i .0) (i .1) (i .2)) (λ i. rows (i .0))
+setting-max = shown (λ i. Table (i .0)) (λ i d. In (rows (i .0)) d ⊎ (d ≡ i .1)) (λ i d. cond (eqb d (i .1)) (max (at (rows (i .0)) (i .1)) (i .2)) (at (rows (i .0)) d)) (λ i o out r p. p)
+    (empty, 1, 0) (empty, 1, 0) (empty, 2, 0) (empty, 1, 0) (λ d. ⊎-elim (λ h. absurd h) (λ e. e)) (inr refl) (⊎-elim (λ h. h) (λ e. omega arith)) (inr refl) (λ h. h)
+
+pub merging : Shown most (λ o t. filled t o) (λ (i : Held × Held). Merged (i .0) (i .1)) (λ i. rows (i .0))
+merging = shown (λ i. Table (i .0) × Table (i .1)) (λ i c. In (rows (i .0)) c ⊎ In (rows (i .1)) c) (λ i c. max (at (rows (i .0)) c) (at (rows (i .1)) c)) (λ i o out r p. p)
+    (empty, empty) (empty, one 1 1) (empty, empty) (empty, one 1 1) (λ d. ⊎-elim (λ h. absurd h) (λ h. absurd h)) (inr (inl refl)) (⊎-elim (λ h. h) (λ h. h)) (inr (inl refl)) (λ h. h)
+
+-- ## Order
+
 table-empty : Table empty
 table-empty = record { few = omega arith; rising = tt }
 
 table-one : (c k : ℕ) → Table (one c k)
 table-one c k = record { few = omega arith; rising = (tt, tt) }
 
-nothing : Merged empty empty (two [] []) (two [] []) (made.Rows 0)
-nothing = done [] (table-empty, table-empty) (merge-right [] [] [] tt (λ c. omega arith)) (omega arith) refl refl
-
--- room for one row
-abbrev spot : Slices
-spot = two (0 ∷ []) (0 ∷ [])
-
-single : (c k : ℕ) → Merged empty (one c k) spot (two (c ∷ []) (k ∷ [])) (made.Rows 1)
-unfolding look
-single c k = done (row c k ∷ []) (table-empty, table-one c k) (merge-right [] (row c k ∷ []) (row c k ∷ []) (tt, tt) (λ d. omega arith)) (omega arith) refl refl
-
--- ## Merge
-
--- what it leaves and answers
-abbrev Merging : Type 0
-Merging = Held → Held → Slices → Slices × Made
-
-abbrev Meets : Merging → Type 0
-Meets f = (a b : Held) (o : Slices) → Merged a b o (f a b o .0) (f a b o .1)
-
--- a merge that always says FULL
-pub always-full : Meets (λ a b o. (filled [] o, made.Refused Full)) → ⊥
-always-full h = let e : made.Rows 0 ≡ made.Refused Full = merge-determined (two [] []) _ _ _ _ empty empty nothing (h empty empty (two [] [])) .0 in let z : _≡_ {A = ℕ} 0 1 = cc in omega arith
-
--- one constant table
-pub constant : (t : List Row) → Meets (λ a b o. (filled t o, made.Rows (length t))) → ⊥
-constant t h =
-    let p : made.Rows 0 ≡ made.Rows (length t) = merge-determined (two [] []) _ _ _ _ empty empty nothing (h empty empty (two [] [])) .0 in
-    let q : made.Rows 1 ≡ made.Rows (length t) = merge-determined spot _ _ _ _ empty (one 1 1) (single 1 1) (h empty (one 1 1) spot) .0 in
-    let z : _≡_ {A = ℕ} 0 1 = cc in
-    omega arith
-
--- a merge that hands back its left table
-pub left-table : Meets (λ a b o. (filled (rows a) o, made.Rows (a .count))) → ⊥
-left-table h =
-    let q : made.Rows 1 ≡ made.Rows 0 = merge-determined spot _ _ _ _ empty (one 1 1) (single 1 1) (h empty (one 1 1) spot) .0 in
-    let z : _≡_ {A = ℕ} 0 1 = cc in
-    omega arith
-
--- ## Order
-
 -- one constant verdict, whatever it is
 pub constant-verdict : (v : Order) → ((a b : Held) → Compared a b v) → ⊥
 constant-verdict v h =
-    let p : v ≡ order.Equal = partial-cmp-determined empty empty v order.Equal (h empty empty) (says (table-empty, table-empty) refl ((λ c. omega arith), (λ c. omega arith))) in
-    let q : v ≡ order.Less = partial-cmp-determined empty (one 1 1) v order.Less (h empty (one 1 1))
+    let p : v ≡ order.Equal = compared-one empty empty v order.Equal (h empty empty) (says (table-empty, table-empty) refl ((λ c. omega arith), (λ c. omega arith))) in
+    let q : v ≡ order.Less = compared-one empty (one 1 1) v order.Less (h empty (one 1 1))
     (says (table-empty, table-one 1 1) refl ((λ c. omega arith), (λ f. let z : 1 ≤ 0 = f 1 in omega arith))) in
     let z : _≡_ {A = ℕ} 0 1 = cc in
     omega arith
+
+-- a verdict where one of the vectors breaks its rules
+pub malformed-verdict : (a b : Held) (v : Order) → (Table a × Table b → ⊥) → Compared a b v → v ≡ order.Refused Malformed
+malformed-verdict a b v n h = compared-one a b v (order.Refused Malformed) h (refuses n refl)
 
 -- ## Setting
 
@@ -98,7 +165,7 @@ pub absent-zero : (c k : ℕ) → MinSet empty c (suc k) spot (two (c ∷ []) (0
 unfolding put
 absent-zero c k h =
     let right : MinSet empty c (suc k) spot (two (c ∷ []) (suc k ∷ [])) (made.Rows 1) = done (row c (suc k) ∷ []) table-empty (set-right [] c (suc k) tt) (omega arith) refl refl in
-    let e = set-min-determined spot _ _ (made.Rows 1) (made.Rows 1) empty c (suc k) h right .1 in
+    let e = writes-one spot {r = made.Rows 1} {s = made.Rows 1} h right .1 in
     let z : 0 ≡ suc k = ap (λ (o : Slices). getD (o .clocks) 0 0) e in
     omega arith
 
@@ -114,7 +181,7 @@ all-zero : (o : Slices) {out : Slices} → out ≡ filled [] o → (j : ℕ) →
 all-zero o e j = (ap (λ (x : Slices). getD (x .clients) j 0) e ∙ zeros (length (o .clients) - 0) j, ap (λ (x : Slices). getD (x .clocks) j 0) e ∙ zeros (length (o .clocks) - 0) j)
 
 refusing : (e : Refusal) → noOf e ≡ 0 → ⊥
-refusing e = eqb-false (noOf e) 0 (refuses e)
+refusing e = eqb-false (noOf e) 0 (chaining.refuses e)
 
 pub refused-zero : {ok : Type 0} {right : List Row → Type 0} (o out : Slices) (e : Refusal) → Writes ok right o out (made.Refused e) → (j : ℕ) → (getD (out .clients) j 0 ≡ 0) × (getD (out .clocks) j 0 ≡ 0)
 refused-zero o out e h = all-zero o (refusal-leaves (refusing e) h .1)
@@ -122,7 +189,29 @@ refused-zero o out e h = all-zero o (refusal-leaves (refusing e) h .1)
 pub decode-refused-zero : (bs : List ℕ) (place : ℕ) (o out : Slices) (e : Refusal) → Decodes bs place o out (saidDecoded place (decoded.Refused e)) → (j : ℕ) → (getD (out .clients) j 0 ≡ 0) × (getD (out .clocks) j 0 ≡ 0)
 decode-refused-zero bs place o out e h = all-zero o (refusal-decoded h (refusing e) .2)
 
+-- ## Encoding
+
+-- refused where the bytes fit, and FULL before MALFORMED
+pub encode-early : {a : Held} {buf after : List ℕ} {place : ℕ} (e : Refusal) → Table a → place + length (encoded (rows a)) ≤ length buf → Encoded a buf place (answer.Refused e) after → ⊥
+encode-early e t h (bytes.writes u f) = omega (arith, unput e f .full)
+encode-early e t h (bytes.malformed n f) = n t
+
+pub encode-full-first : {a : Held} {buf after : List ℕ} {place : ℕ} → (Table a → ⊥) → Encoded a buf place (answer.Refused Full) after → ⊥
+encode-full-first n (bytes.writes u f) = n u
+encode-full-first n (bytes.malformed m f) = let z = ap (λ (w : Written). w .no) f in omega arith
+
 -- ## Decoding
+
+module _ (most : ℕ) (bs : List ℕ) (n : ℕ) (rs : List Row) (p client q : ℕ) (read-client : readAt 64 bs p ≡ number.done client q) where
+  -- "the first refusal met": that of the clock, whether or not there is room for its row
+  pub first-met : (e at : ℕ) → (e ≡ 0 → ⊥) → readAt 32 bs q ≡ number.refused e at → pairsAt most bs (suc n) rs p ≡ stop e
+  unfolding pairsAt andThen
+  first-met e at z g = rw (read-client, g, ne-eqb e 0 z) refl
+
+  -- "FULL at the first pair, once both its numbers are read, needing a row that isn't there": whatever stands behind it
+  pub pair-full : (clock u : ℕ) → readAt 32 bs q ≡ number.done clock u → most < length (stored rs (row client clock)) → pairsAt most bs (suc n) rs p ≡ stop (noOf Full)
+  unfolding pairsAt andThen
+  pair-full clock u g l = rw (read-client, g, lt-leb _ _ l) refl
 
 -- the same pair, again and again: one row
 module _ (r : Row) (words : (r .client < 2 ^ 64) × (r .clock < 2 ^ 32)) where
@@ -156,4 +245,4 @@ module _ (r : Row) (words : (r .client < 2 ^ 64) × (r .clock < 2 ^ 32)) where
 -- a decoder that says another place, or another count
 pub another-place : (bs : List ℕ) (place : ℕ) (o out out′ : Slices) (n n′ p p′ : ℕ) → Decodes bs place o out (saidDecoded place (decoded.Done n p))
     → Decodes bs place o out′ (saidDecoded place (decoded.Done n′ p′)) → (n ≡ n′) × (p ≡ p′)
-another-place bs place o out out′ n n′ p p′ x y = let e = decode-determined bs place o out out′ (decoded.Done n p) (decoded.Done n′ p′) x y .0 in (cc, cc)
+another-place bs place o out out′ n n′ p p′ x y = let e = decoded-one bs place o out out′ (decoded.Done n p) (decoded.Done n′ p′) x y .0 in (cc, cc)

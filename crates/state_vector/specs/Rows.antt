@@ -1,10 +1,11 @@
 -- Rows (client, clock), the one vector of some clients with their clocks, and the order. Document 01, "Tables" and "State vectors".
 use mathlib.Core.Path.{_≡_}
 use mathlib.Core.Logic.{_⊎_, _↔_}
-use mathlib.Core.List.{List, [], _∷_}
+use mathlib.Core.List.{List, [], _∷_, map}
 use mathlib.Core.Bool.{cond}
 use Prim.Native.Nat.{ℕ, _≤_, _<_, min, max}
 use lib.Dec.{eqb}
+use Rattle.tables.specs.Clients.{Among}
 
 -- "rows (client, clock)"
 pub record Row : Type 0 where
@@ -16,8 +17,7 @@ row c k = record { client = c; clock = k }
 
 -- client c has a row
 abbrev pub In : List Row → ℕ → Type 0
-In [] c = ⊥
-In (r ∷ rs) c = (c ≡ r .client) ⊎ In rs c
+In t c = Among (map (λ (r : Row). r .client) t) c
 
 -- "Absent reads as 0."
 abbrev pub at : List Row → ℕ → ℕ

@@ -47,7 +47,7 @@ room o = min (length (o .clients)) (length (o .clocks))
 abbrev pub most : Slices → ℕ
 most o = min vectorLimit (room o)
 
--- well formed
+-- well formed: "count at most each length; clients strictly rise; any clock, zero too"
 pub record Table (h : Held) : Type 0 where
   pub few : h .count ≤ most (h .slices)
   pub rising : Rising (rows h)
@@ -59,7 +59,7 @@ filled t o = record {
   clocks = padded (length (o .clocks)) (map (λ (r : Row). r .clock) t);
 }
 
--- a routine that reads vectors and writes another one
+-- "An operation reads its tables and writes another one."
 abbrev pub Writes : Type 0 → (List Row → Type 0) → Slices → Slices → Made → Type 0
 Writes ok right o out r = Gives ok right (most o) (λ t. filled t o) out (saidMade r)
 
@@ -68,15 +68,19 @@ abbrev pub saidGot : Got → Answer ℕ
 saidGot (got.Is k) = answer 0 (k .0)
 saidGot (got.Refused e) = answer (noOf e) 0
 
-abbrev pub Gets : Held → ℕ → Got → Type 0
-Gets a c r = Tells (Table a) (λ k. k ≡ at (rows a) c) 0 (saidGot r)
+-- "Absent reads as 0."
+abbrev pub Get : Held → ℕ → Got → Type 0
+Get a c r = Tells (Table a) (λ k. k ≡ at (rows a) c) 0 (saidGot r)
 
+-- "`set_min` stores the smaller, but for an absent client it stores the clock itself."
 abbrev pub MinSet : Held → ℕ → ℕ → Slices → Slices → Made → Type 0
 MinSet a c k = Writes (Table a) (SetMin (rows a) c k)
 
+-- "`set_max` stores the larger; an absent client gets a row, for clock 0 too."
 abbrev pub MaxSet : Held → ℕ → ℕ → Slices → Slices → Made → Type 0
 MaxSet a c k = Writes (Table a) (SetMax (rows a) c k)
 
+-- "`merge` keeps every client of either side, with the larger clock."
 abbrev pub Merged : Held → Held → Slices → Slices → Made → Type 0
 Merged a b = Writes (Table a × Table b) (Merge (rows a) (rows b))
 
@@ -88,5 +92,6 @@ saidOrder order.Greater = answer 0 greater
 saidOrder order.Nothing = answer 0 none
 saidOrder (order.Refused e) = answer (noOf e) none
 
+-- "Order is pointwise with absent as 0: Less, Equal, Greater or none."
 abbrev pub Compared : Held → Held → Order → Type 0
 Compared a b r = Tells (Table a × Table b) (Compare (rows a) (rows b)) none (saidOrder r)

@@ -17,7 +17,7 @@ ghost use Rattle.tables.specs.Limits.{vectorLimit};
 ghost use Rattle.tables.specs.Inner.Climb.{Climbs};
 ghost use Rattle.tables.specs.Inner.Rows.{span};
 ghost use Rattle.state_vector.specs.Rows.{row, at, smaller, Set};
-ghost use Rattle.state_vector.specs.Vectors.{two, held, rows, rowsOf, room, Table, filled, Writes, Gets, MinSet, MaxSet, Merged, Compared};
+ghost use Rattle.state_vector.specs.Vectors.{two, held, rows, rowsOf, room, Table, filled, Writes, Get, MinSet, MaxSet, Merged, Compared};
 ghost use Rattle.state_vector.specs.Inner.{Finds, Stands, put, Holds, Opens, Closes, Firsts, element, Stores, Passes, Rests, Fronts, Unites, Nulls, anyLess, Unders, judged, Judges, rowAt, Puts, Reads};
 ghost use Rattle.state_vector.specs.Bytes.{rowBytes, encoded, Encoded, pairsAt, saidDecoded, Decodes};
 ghost use Rattle.varint.specs.Number.{bytesOf};
@@ -45,7 +45,7 @@ pub enum Order {
 
 // The clock of a client; absent reads as 0.
 pub fn get(clients: &[u64], clocks: &[u32], count: usize, client: Client) -> Got
-    ensures { λ r. ⌜ Gets (held (now (clients .entry)) (now (clocks .entry)) count) (client .0) r ⌝ }
+    ensures { λ r. ⌜ Get (held (now (clients .entry)) (now (clocks .entry)) count) (client .0) r ⌝ }
 {
     if !well_formed(clients, clocks, count) {
         return Got::Refused(Refusal::Malformed);

@@ -1,6 +1,8 @@
 -- Laws that belong to no one function.
 pub mod Giving
+pub mod Determined
 pub mod Below
+pub mod Refuted
 pub mod Saying
 pub mod Unique
 pub mod Joining

@@ -1,20 +1,45 @@
--- Each of the wrong desks of specs/Wrong.antt is excluded: by a run in which a desk lacks an id that reached it, refuses what it has room for, or has no answer.
+-- Wrong desks that demand 3 excludes: document 01, "How tight the statements are". Each is three routines, of which the insert and the capture are right, and
+-- falls by a run in which a desk lacks an id that reached it, refuses what it has room for, or has no answer.
+-- A desk that always refuses, yet keeps what it refused as reached, is not among them, since there is none by the log: what reached a desk is computed from
+-- the answers alone, where a refused step brings nothing (`carried`), and the run takes over no spare table of a refused step (`taken`).
 use mathlib.Core.Path.{_≡_, refl, _∙_, ap}
 use mathlib.Core.Logic.{inl, inr}
+use mathlib.Core.Bool.{Bool, true, false}
 use mathlib.Core.List.{List, [], _∷_}
 use Prim.Native.Nat.{ℕ}
 use native.Mathlib.Omega.{arith}
-use lib.Dec.{lit<, lit≤}
+use lib.Dec.{eqb, lit<, lit≤}
 use lib.ListN.{length}
 use Rattle.varint.specs.declared.Refusal.the-variants.{Full}
+use Rattle.tables.specs.declared.Made.{Made}
 use Rattle.tables.specs.declared.Made.the-variants.{Rows, Refused}
 use Rattle.ids.specs.Rows.{Row, row, Holds}
-use Rattle.ids.specs.Tables.{Held, rows}
-use Rattle.desks.specs.Runs.{Place, desk, message, put, Event, insert, capture, merge, Run}
+use Rattle.ids.specs.Tables.{Slices, Held, Captured, Merged, rows, filled}
+use Rattle.desks.specs.Runs.{Place, desk, message, put, Event, insert, capture, merge, Routines, Run}
 use Rattle.desks.specs.Demand.{Demand, Answers, GoesOn, fitting}
-use Rattle.desks.specs.Wrong.{left-back, acknowledging, refusing, silent}
 use Rattle.ids.proofs.Unique.{table-one}
-use Rattle.desks.proofs.Example.{lent, empty, one, one-of, second-insert, copied, copied-none, first-merge, w2, sending, sent}
+use Rattle.desks.proofs.Example.{with-merge, lent, empty, one, one-of, second-insert, copied, copied-none, first-merge, w2, sending, sent}
+
+-- "a merge that hands back its left table"
+abbrev left-back : Routines
+left-back = with-merge (λ a b. Captured a)
+
+-- "a desk that merges the first message and only acknowledges later ones". A promise sees tables and no history, so the first message is that of a desk that
+-- has no row yet: it merges; later it says done, and keeps the table that it has. In the run below desk 1 gets two messages, and merges the first.
+abbrev first-only : Bool → Held → Held → Slices → Slices → Made → Type 0
+first-only true a b = Merged a b
+first-only false a b = Captured a
+
+abbrev acknowledging : Routines
+acknowledging = with-merge (λ a b. first-only (eqb (a .count) 0) a b)
+
+-- "a merge that always says FULL": each desk holds what was accepted there, so it is `Answers` that excludes this one
+abbrev refusing : Routines
+refusing = with-merge (λ a b o out r. (r ≡ Refused Full) × (out ≡ filled [] o))
+
+-- a merge that allows no answer: each desk holds what was accepted there, so it is `GoesOn` that excludes this one
+abbrev silent : Routines
+silent = with-merge (λ a b o out r. ⊥)
 
 -- Desk 1 merges message 0 and gets its own empty table back: it lacks clock 0.
 abbrev w3 : Place → Held
