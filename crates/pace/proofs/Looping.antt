@@ -1,7 +1,7 @@
 -- What the loops know: the rest of the run from here is the whole run. Assumes nothing.
-use Prim.Native.Nat.{ℕ, zero, suc, _+_, _-_, _≤_, _<_}
-use mathlib.Core.Path.{_≡_, refl, sym, ap, _∙_}
-use mathlib.Core.List.{List, [], _∷_}
+use Prim.Native.Nat.{ℕ, suc, _+_, _-_, _≤_, _<_}
+use mathlib.Core.Path.{_≡_, refl, ap, _∙_}
+use mathlib.Core.List.{List}
 use native.Mathlib.Omega.{arith}
 use native.Mathlib.Numerals.{add-one}
 use borrow.Author.Needs.{needs}
@@ -18,7 +18,7 @@ use Rattle.varint.specs.declared.ReadU64.the-variants as u64
 use Rattle.varint.specs.declared.Wrote.{Wrote}
 use Rattle.varint.specs.declared.Wrote.the-variants as answer
 use Rattle.varint.proofs.Chaining.{refuses, put, put-length, unput}
-use Rattle.pace.specs.Pace.{joined, Laid, laid}
+use Rattle.pace.specs.Pace.{joined, laid}
 
 -- n numbers are read: `left` of them are to come, from place `at` on, and sum is what was read.
 pub record Reading (w : ℕ) (bytes : List ℕ) (n left at sum : ℕ) : Type 0 where

@@ -4,7 +4,7 @@ use mathlib.Core.List.{List, [], _∷_}
 use mathlib.Core.Bool.{cond}
 use lib.Bits.{bitXor}
 use lib.Dec.{eqb}
-use Rattle.varint.specs.Number.{andThen, readAt, bytesOf, Written, writeAt}
+use Rattle.varint.specs.Number.{andThen, readAt, bytesOf, writeAt}
 
 -- n numbers of w bits read one after another from a place on, and a sum so far, joined by exclusive or; 0 if one of them is refused
 unfoldable pub joined : (w : ℕ) (bytes : List ℕ) (n at sum : ℕ) → ℕ

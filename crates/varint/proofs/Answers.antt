@@ -1,6 +1,6 @@
 -- What the public readers and writers of signed numbers make of what those below them answered. Assumes nothing.
 use Prim.Native.Nat.{ℕ, _-_, _^_, _<_, _≤_}
-use mathlib.Core.Path.{_≡_, refl, sym, ap, _∙_}
+use mathlib.Core.Path.{_≡_, sym, ap, _∙_}
 use mathlib.Core.Bool.{Bool, true, false}
 use mathlib.Core.List.{List}
 use mathlib.Core.Logic.{⊎-elim}
@@ -11,7 +11,7 @@ use lib.ListN.{length}
 use lib.IntN.{ℤ, pos, natAbs}
 use lib.Signed.{mag, ltZ}
 use mir.Syntax.{Width, w64}
-use mir.Val.{SFits, toZ, ofZ, hbits}
+use mir.Val.{SFits, hbits}
 use mir.Facts.{toZ-ofZ, sfits-widen}
 use lib.Dec.{T, leb}
 use lib.Pow.{pow-pos}

@@ -1,5 +1,5 @@
 -- The laws of signed numbers: their reader's loop, their bytes, and what a number's sign and size are in two's complement. Assumes nothing.
-use Prim.Native.Nat.{ℕ, zero, suc, _+_, _-_, _*_, _/_, _%_, _^_, _≤_, _<_}
+use Prim.Native.Nat.{ℕ, suc, _+_, _-_, _/_, _%_, _^_, _≤_, _<_}
 use mathlib.Core.Path.{_≡_, refl, sym, ap, _∙_}
 use mathlib.Core.Bool.{Bool, true, false, cond, true≢false}
 use mathlib.Core.List.{List, [], _∷_}
@@ -8,15 +8,15 @@ use native.Mathlib.Nat.{add-zero, mul-one, mod-eq-of-lt, lt-irrefl}
 use native.Mathlib.Omega.{arith}
 use native.Mathlib.Numerals.{add-one}
 use borrow.Author.Needs.{needs}
-use borrow.Author.Tests.{lt-ltb, le-ltb, lt-leb, le-leb, ltb-true, ltb-false}
+use borrow.Author.Tests.{lt-ltb, le-ltb, ltb-true}
 use lib.Dec.{T, leb}
-use lib.Bits.{bitOr, or-zero-l}
+use lib.Bits.{or-zero-l}
 use lib.IntN.{ℤ, pos, negsuc, natAbs}
 use lib.Signed.{mag, ltZ, nonNeg}
-use lib.ListN.{length, getD, set, drop, length-set, drop-of-length-le}
-use lib.Seq.{sets, drop-cons}
+use lib.ListN.{length, getD, set, length-set, drop-of-length-le}
+use lib.Seq.{drop-cons}
 use mir.Syntax.{Width, w8, w64}
-use mir.Val.{Fits, SFits, toZ, ofZ, bits, hbits}
+use mir.Val.{Fits, SFits, toZ, ofZ, bits}
 use mir.ValLaws.{half-full}
 use mir.Facts.{toZ-pos, toZ-ofZ}
 use Rattle.varint.specs.Number.{Answer, done, refused, joined, reads, readBy, tenth, signed, written, bytesOf}

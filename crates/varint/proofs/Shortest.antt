@@ -2,18 +2,18 @@
 -- unsigned numbers of every width and for signed ones: k bytes read to less than 2 ^ (7 k), or 2 ^ (7 k - 1) for a signed pattern, whatever
 -- wraps around; and a pattern that stands for another magnitude, from 2 ^ 63 on, needs ten bytes, which is the most. Assumes nothing.
 use Prim.Native.Nat.{ℕ, zero, suc, _+_, _-_, _*_, _/_, _%_, _^_, _≤_, _<_}
-use mathlib.Core.Path.{_≡_, refl, sym, ap, _∙_, subst}
-use mathlib.Core.Bool.{Bool, true, false, cond}
+use mathlib.Core.Path.{_≡_, refl, sym, ap, _∙_}
+use mathlib.Core.Bool.{Bool, true, false}
 use mathlib.Core.List.{List, [], _∷_}
 use mathlib.Core.Logic.{⊎-elim}
-use native.Mathlib.Nat.{mod-le, le-trans, lt-of-le-of-lt, lt-of-lt-of-le, pow-suc, add-zero}
+use native.Mathlib.Nat.{mod-le, lt-of-le-of-lt, lt-of-lt-of-le, pow-suc, add-zero}
 use native.Mathlib.Omega.{arith}
 use borrow.Author.Tests.{lt-ltb, le-ltb, eqb-true, eqb-false}
 use lib.Dec.{eqb}
 use lib.Bits.{or-lt}
 use lib.Pow.{pow-add, pow-mono, shl-lt}
 use lib.ListN.{length, drop}
-use lib.IntN.{ℤ, pos, negsuc, natAbs}
+use lib.IntN.{ℤ, natAbs}
 use mir.Syntax.{w64}
 use mir.Val.{toZ}
 use mir.Facts.{toZ-pos, toZ-neg}

@@ -1,8 +1,8 @@
 -- Reading what was written gives the value, the sign flag and the place past it, for signed numbers of every width. Assumes nothing.
-use Prim.Native.Nat.{ℕ, zero, suc, _+_, _-_, _*_, _/_, _%_, _^_, _≤_, _<_}
+use Prim.Native.Nat.{ℕ, suc, _+_, _-_, _/_, _%_, _^_, _≤_, _<_}
 use mathlib.Core.Path.{_≡_, refl, sym, ap, ap₂, _∙_}
 use mathlib.Core.Bool.{Bool, true, false, cond, true≢false}
-use mathlib.Core.List.{List, [], _∷_, _++_}
+use mathlib.Core.List.{List, _∷_, _++_}
 use mathlib.Core.Logic.{⊎-elim}
 use native.Mathlib.Nat.{add-zero, lt-of-lt-of-le}
 use native.Mathlib.Omega.{arith}
@@ -16,8 +16,8 @@ use lib.Seq.{getD-drop}
 use mir.Syntax.{w64}
 use mir.Val.{toZ}
 use mir.Facts.{toZ-pos, toZ-neg}
-use Rattle.varint.specs.Number.{Answer, done, joined, andThen, reads, readBy, tenth, signed, written, Written, writeAt}
-use Rattle.varint.specs.Integer.{IntAnswer, minusAt, signedOf, signedAt, plain, fitting, signedBytes, intBytes, wrongSign, writeSignedAt}
+use Rattle.varint.specs.Number.{done, joined, andThen, reads, readBy, tenth, signed, written, Written, writeAt}
+use Rattle.varint.specs.Integer.{minusAt, signedOf, signedAt, plain, fitting, signedBytes, intBytes, wrongSign, writeSignedAt}
 use Rattle.varint.proofs.Writing.{lt-or-ge}
 use Rattle.varint.proofs.RoundTrip.{Ready, back}
 use Rattle.varint.proofs.Chaining.{Put, put, put-read}
