@@ -1,10 +1,10 @@
 -- Document 01's number and value of an answer lose nothing: equal ones come from equal answers. Assumes nothing.
 use mathlib.Core.Path.{_≡_, refl, ap, sym, _∙_}
 use mathlib.Core.Bool.{Bool, true, false}
-use Prim.Native.Nat.{ℕ, zero, suc}
+use Prim.Native.Nat.{ℕ}
 use Rattle.varint.specs.Answer.{noOf}
 use Rattle.varint.specs.declared.Refusal.{Refusal}
-use Rattle.varint.specs.declared.Refusal.the-variants.{End, Long, Range, Full, Malformed, Sign}
+use Rattle.varint.proofs.Determined.{pick, picked}
 use Rattle.tables.specs.Answers.{Answer, saidMade, saidTold, saidCounted}
 use Rattle.tables.specs.declared.Made.{Made}
 use Rattle.tables.specs.declared.Made.the-variants as made
@@ -20,27 +20,12 @@ Undone {R} said back = (r : R) → back (said r .no) (said r .value) ≡ r
 pub view-same : {R A : Type 0} (said : R → Answer A) (back : ℕ → A → R) → Undone said back → (r r′ : R) → said r ≡ said r′ → r ≡ r′
 view-same said back u r r′ e = sym (u r) ∙ (ap (λ (a : Answer _). back (a .no) (a .value)) e ∙ u r′)
 
-abbrev pub refusalOf : ℕ → Refusal
-refusalOf zero = End
-refusalOf (suc zero) = End
-refusalOf (suc (suc zero)) = Long
-refusalOf (suc (suc (suc zero))) = Range
-refusalOf (suc (suc (suc (suc zero)))) = Full
-refusalOf (suc (suc (suc (suc (suc zero))))) = Malformed
-refusalOf (suc (suc (suc (suc (suc (suc n)))))) = Sign
-
 -- an answer by its number: what `done` makes of the value, or a refusal
 abbrev pub byNo : {R A : Type 0} → (A → R) → (Refusal → R) → ℕ → A → R
-byNo done refused zero v = done v
-byNo done refused (suc n) v = refused (refusalOf (suc n))
+byNo done refused n v = pick refused n (done v)
 
 pub refused-back : {R A : Type 0} (done : A → R) (refused : Refusal → R) (e : Refusal) (v : A) → byNo done refused (noOf e) v ≡ refused e
-refused-back done refused End v = refl
-refused-back done refused Long v = refl
-refused-back done refused Range v = refl
-refused-back done refused Full v = refl
-refused-back done refused Malformed v = refl
-refused-back done refused Sign v = refl
+refused-back done refused e v = picked refused (done v) e
 
 pub made-same : (r r′ : Made) → saidMade r ≡ saidMade r′ → r ≡ r′
 made-same = view-same saidMade (byNo made.Rows made.Refused) back
