@@ -13,8 +13,4 @@ round-trip-spec =
     (λ c. search needs)
     (λ c. search needs)
     (λ c. search needs)
-    (λ c.
-    let at-decode : tie.After-decode = search in
-    let at-encode : tie.After-encode = search in
-    let at-known2 : tie.After-shared-slice-known2 = search in
-    comes-back (at-encode .encode .result) (at-decode .decode .result) (record { clients = at-known2 .before .shared-slice-known .given; clocks = at-known2 .shared-slice-known2 .given }) (at-encode .encode .ensures) (at-decode .decode .ensures)))
+    (λ c. search comes-back))
