@@ -9,9 +9,7 @@ use Rattle.ids.proofs.shift.Reads as shift-reads
 use Rattle.ids.proofs.shift_wide.Reads as shift-wide-reads
 
 returns : tie.Need-returns
-returns c =
-    let at-start : tie.Start = search in
-    copied-over (at-start .args .clients .now) (at-start .args .starts .now) (at-start .args .ends .now) (c .if1 .taken)
+returns c = search copied-over
 
 shift-wide-requires : tie.Need-shift-wide-requires
 shift-wide-requires c κs = search needs
