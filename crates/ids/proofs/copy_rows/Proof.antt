@@ -5,9 +5,7 @@ use Rattle.ids.proofs.copy_rows.Statement.{statement}
 use Rattle.ids.proofs.copy_rows.Tie as tie
 
 returns : tie.Need-returns
-returns c =
-    let at-start : tie.Start = search in
-    copied-over (at-start .args .clients .now) (at-start .args .starts .now) (at-start .args .ends .now) (c .if1 .taken)
+returns c = search copied-over
 
 shift-wide-requires : tie.Need-shift-wide-requires
 shift-wide-requires c κs = search needs

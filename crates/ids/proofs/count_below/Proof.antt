@@ -43,8 +43,8 @@ loop-less c = search needs
 
 loop-again : tie.Need-loop-again Inv-loop μ-loop
 loop-again c =
-    let at-at-loop : tie.At-loop Inv-loop μ-loop = search in
-    (parted-left (at-at-loop .loop .lo + (at-at-loop .loop .hi - at-at-loop .loop .lo) / 2) (at-at-loop .loop .inv .0) (omega arith) (omega arith) (c .before .past .ensures .right (c .if1 .taken)), omega arith)
+    let at-loop : tie.At-loop Inv-loop μ-loop = search in
+    (parted-left (at-loop .loop .lo + (at-loop .loop .hi - at-loop .loop .lo) / 2) (at-loop .loop .inv .0) (omega arith) (omega arith) (c .before .past .ensures .right (c .if1 .taken)), omega arith)
 
 add-lo : tie.Need-add-lo Inv-loop μ-loop
 add-lo c = search needs
@@ -54,8 +54,8 @@ loop-less-2 c = search needs
 
 loop-again-2 : tie.Need-loop-again-2 Inv-loop μ-loop
 loop-again-2 c =
-    let at-at-loop : tie.At-loop Inv-loop μ-loop = search in
-    let n = c .before .past .ensures .wrong (c .if1 .left) in (parted-right (at-at-loop .loop .lo + (at-at-loop .loop .hi - at-at-loop .loop .lo) / 2) (at-at-loop .loop .inv .0) (omega arith) (omega arith) (omega arith), omega arith)
+    let at-loop : tie.At-loop Inv-loop μ-loop = search in
+    let n = c .before .past .ensures .wrong (c .if1 .left) in (parted-right (at-loop .loop .lo + (at-loop .loop .hi - at-loop .loop .lo) / 2) (at-loop .loop .inv .0) (omega arith) (omega arith) (omega arith), omega arith)
 
 returns : tie.Need-returns Inv-loop μ-loop
 returns c = (parted-met (c .before .loop .inv .0) (omega arith), c .before .loop .inv .1)

@@ -56,7 +56,11 @@ loop-less : tie.Need-loop-less Inv-loop μ-loop
 loop-less c = search needs
 
 loop-again : tie.Need-loop-again Inv-loop μ-loop
-loop-again c = (omega arith, one-more _ _ _ _ (omega arith) (c .before .before .before .before .loop .inv .0) (c .before .before .before .before .loop .inv .1) (fresh-most (c .fresh .ensures)), counting-more _ _ _ (c .before .before .before .before .before .before .before .shared-slice-known2 .given) _ (c .before .before .before .before .before .before .before .before .before .pre) _ _ _ (omega arith) (c .before .before .before .before .loop .inv .0) (c .before .before .before .before .loop .inv .2) (c .fresh .ensures))
+loop-again c = (
+  omega arith,
+  one-more _ _ _ _ (omega arith) (search) (search) (fresh-most (c .fresh .ensures)),
+  counting-more _ _ _ (search) _ (search) _ _ _ (omega arith) (search) (search) (c .fresh .ensures),
+)
 
 returns-2 : tie.Need-returns-2 Inv-loop μ-loop
 returns-2 c =

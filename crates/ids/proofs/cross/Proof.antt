@@ -71,14 +71,15 @@ start c = search
 
 loop-again : tie.Need-loop-again Inv-loop μ-loop
 loop-again c =
-    let at-keep : tie.After-keep Inv-loop μ-loop = search in
-    let at-share : tie.After-share Inv-loop μ-loop = search in
-    let at-else1 : tie.Else1 Inv-loop μ-loop = search in
-    let at-start = start at-else1 in (
-      at-keep .keep .kept .0 ∙ at-else1 .before .before .loop .inv .0,
-      at-keep .keep .kept .1 .0 ∙ at-else1 .before .before .loop .inv .1,
-      at-keep .keep .kept .1 .1 .0 ∙ at-else1 .before .before .loop .inv .2,
-      crossing-more (at-start .pre .0) (at-start .pre .1 .0) (at-else1 .before .loop-test .taken) (at-else1 .if1 .left) (at-share .before .before .row-at .ensures) (at-share .before .row-at2 .ensures) (at-share .share .ensures) (at-keep .keep .ensures) (at-else1 .before .before .loop .inv .3),
+    let k : tie.After-keep Inv-loop μ-loop = search in
+    let h : tie.After-share Inv-loop μ-loop = search in
+    let e : tie.Else1 Inv-loop μ-loop = search in
+    let t = start e .pre in
+    let v = e .before .before .loop .inv in (
+      k .keep .kept .0 ∙ v .0,
+      k .keep .kept .1 .0 ∙ v .1,
+      k .keep .kept .1 .1 .0 ∙ v .2,
+      crossing-more (t .0) (t .1 .0) (e .before .loop-test .taken) (e .if1 .left) (h .before .before .row-at .ensures) (h .before .row-at2 .ensures) (h .share .ensures) (k .keep .ensures) (v .3),
     )
 
 same-length-4 : tie.Need-same-length-4 Inv-loop μ-loop

@@ -2,7 +2,7 @@
 use native.Mathlib.Omega.{arith}
 use lib.ListN.{length}
 use mathlib.Core.Path.{_≡_, refl, _∙_}
-use Prim.Native.Nat.{_+_, _-_}
+use Prim.Native.Nat.{_+_, _-_, _≤_}
 use Rattle.tables.proofs.Uniting.{less-left}
 use Rattle.tables.proofs.Crossing.{moves}
 use Rattle.tables.proofs.Differing.{Differing, differed-none, differed-all}
@@ -30,11 +30,21 @@ row-at-requires c κs =
     let at-start : tie.Start Inv-loop μ-loop = search in
     omega (arith, at-start .pre .0 .few, c .loop-test .taken)
 
+abbrev start : tie.In-loop Inv-loop μ-loop → tie.Start Inv-loop μ-loop
+start c = search
+
+-- while a row is left, the gap is one of the right table's
+ahead : (c : tie.In-loop Inv-loop μ-loop) → c .before .loop .j ≤ start c .args .m
+ahead c =
+    let k : tie.After-shared-slice-known3 Inv-loop μ-loop = search in
+    let t = start c .pre in
+    gap-ahead (t .0) (t .1 .0) (k .before .before .shared-slice-known .given) (k .shared-slice-known3 .given) (c .loop-test .taken) (c .before .loop .inv .3)
+
 gap-start-requires : tie.Need-gap-start-requires Inv-loop μ-loop
 gap-start-requires c κs =
-    let at-known3 : tie.After-shared-slice-known3 Inv-loop μ-loop = search in
-    let at-start : tie.Start Inv-loop μ-loop = search in
-    let g = gap-ahead (at-start .pre .0) (at-start .pre .1 .0) (at-known3 .before .before .shared-slice-known .given) (at-known3 .shared-slice-known3 .given) (c .before .loop-test .taken) (c .before .before .loop .inv .3) in (omega (arith, at-start .pre .1 .0 .few), omega (arith, at-start .pre .1 .0 .few))
+    let g = ahead (c .before) in
+    let t = start (c .before) .pre .1 .0 in
+    (omega (arith, t .few), omega (arith, t .few))
 
 gap-end-requires : tie.Need-gap-end-requires Inv-loop μ-loop
 gap-end-requires c κs =
@@ -43,47 +53,42 @@ gap-end-requires c κs =
 
 share-requires : tie.Need-share-requires Inv-loop μ-loop
 share-requires c κs =
-    let at-in-loop : tie.In-loop Inv-loop μ-loop = search in
-    let at-known3 : tie.After-shared-slice-known3 Inv-loop μ-loop = search in
-    let at-start : tie.Start Inv-loop μ-loop = search in
-    let g = gap-ahead (at-start .pre .0) (at-start .pre .1 .0) (at-known3 .before .before .shared-slice-known .given) (at-known3 .shared-slice-known3 .given) (at-in-loop .loop-test .taken) (at-in-loop .before .loop .inv .3) in (omega (arith, at-start .pre .0 .few, at-in-loop .loop-test .taken), omega (arith, at-start .pre .1 .0 .few))
+    let l : tie.In-loop Inv-loop μ-loop = search in
+    let g = ahead l in
+    let t = start l .pre in
+    (omega (arith, t .0 .few, l .loop-test .taken), omega (arith, t .1 .0 .few))
 
 keep-requires : tie.Need-keep-requires Inv-loop μ-loop
 keep-requires c κs =
-    let at-in-loop : tie.In-loop Inv-loop μ-loop = search in
-    let at-known3 : tie.After-shared-slice-known3 Inv-loop μ-loop = search in
-    let at-start : tie.Start Inv-loop μ-loop = search in
-    let g = gap-ahead (at-start .pre .0) (at-start .pre .1 .0) (at-known3 .before .before .shared-slice-known .given) (at-known3 .shared-slice-known3 .given) (at-in-loop .loop-test .taken) (at-in-loop .before .loop .inv .3) in
-    (omega (arith, at-in-loop .before .loop .inv .0, at-in-loop .before .loop .inv .1, at-in-loop .before .loop .inv .2, at-start .pre .1 .1), omega (arith, at-in-loop .before .loop .inv .3 .differed .few, at-start .pre .0 .few, at-start .pre .1 .0 .few, at-in-loop .loop-test .taken))
+    let l : tie.In-loop Inv-loop μ-loop = search in
+    let g = ahead l in
+    let t = start l .pre in
+    let v = l .before .loop .inv in
+    (omega (arith, v .0, v .1, v .2, t .1 .1), omega (arith, v .3 .differed .few, t .0 .few, t .1 .0 .few, l .loop-test .taken))
 
 loop-less : tie.Need-loop-less Inv-loop μ-loop
 loop-less c =
-    let at-share : tie.After-share Inv-loop μ-loop = search in
-    let at-in-loop : tie.In-loop Inv-loop μ-loop = search in
-    let at-known3 : tie.After-shared-slice-known3 Inv-loop μ-loop = search in
-    let at-start : tie.Start Inv-loop μ-loop = search in
-    let g = gap-ahead (at-start .pre .0) (at-start .pre .1 .0) (at-known3 .before .before .shared-slice-known .given) (at-known3 .shared-slice-known3 .given) (at-in-loop .loop-test .taken) (at-in-loop .before .loop .inv .3) in
-    less-left _ _ _ _ _ _ (at-in-loop .before .loop .inv .3 .differed .one .reached .within) (omega arith) (at-in-loop .loop-test .taken) (moves _ _ _ _ _ _ _ refl (at-share .share .ensures .one) (at-share .share .ensures .two))
+    let h : tie.After-share Inv-loop μ-loop = search in
+    let l : tie.In-loop Inv-loop μ-loop = search in
+    let g = ahead l in
+    less-left _ _ _ _ _ _ (l .before .loop .inv .3 .differed .one .reached .within) (omega arith) (l .loop-test .taken) (moves _ _ _ _ _ _ _ refl (h .share .ensures .one) (h .share .ensures .two))
 
-abbrev known : tie.After-row-at Inv-loop μ-loop → tie.After-shared-slice-known5 Inv-loop μ-loop
+abbrev known : tie.In-loop Inv-loop μ-loop → tie.After-shared-slice-known5 Inv-loop μ-loop
 known c = search
-
-abbrev known-first : tie.After-shared-slice-known5 Inv-loop μ-loop → tie.After-shared-slice-known Inv-loop μ-loop
-known-first c = search
 
 loop-again : tie.Need-loop-again Inv-loop μ-loop
 loop-again c =
-    let at-keep : tie.After-keep Inv-loop μ-loop = search in
-    let at-share : tie.After-share Inv-loop μ-loop = search in
-    let at-row-at : tie.After-row-at Inv-loop μ-loop = search in
-    let at-known5 = known at-row-at in
-    let at-known = known-first at-known5 in
-    let g = gap-ahead (at-known .before .pre .0) (at-known .before .pre .1 .0) (at-known .shared-slice-known .given) (at-known5 .before .before .shared-slice-known3 .given) (at-row-at .before .loop-test .taken) (at-row-at .before .before .loop .inv .3) in (
-      at-keep .keep .kept .0 ∙ at-row-at .before .before .loop .inv .0,
-      at-keep .keep .kept .1 .0 ∙ at-row-at .before .before .loop .inv .1,
-      at-keep .keep .kept .1 .1 .0 ∙ at-row-at .before .before .loop .inv .2,
-      differing-more (at-known .before .pre .0) (at-known .before .pre .1 .0) (at-known5 .before .shared-slice-known4 .given) (at-known5 .shared-slice-known5 .given) (at-row-at .before .loop-test .taken) g
-          (at-row-at .row-at .ensures) (at-share .before .before .gap-start .ensures) (at-share .before .gap-end .ensures) (at-share .share .ensures) (at-keep .keep .ensures) (at-row-at .before .before .loop .inv .3),
+    let k : tie.After-keep Inv-loop μ-loop = search in
+    let h : tie.After-share Inv-loop μ-loop = search in
+    let r : tie.After-row-at Inv-loop μ-loop = search in
+    let l = r .before in
+    let t = start l .pre in
+    let v = l .before .loop .inv in (
+      k .keep .kept .0 ∙ v .0,
+      k .keep .kept .1 .0 ∙ v .1,
+      k .keep .kept .1 .1 .0 ∙ v .2,
+      differing-more (t .0) (t .1 .0) (known l .before .shared-slice-known4 .given) (known l .shared-slice-known5 .given) (l .loop-test .taken) (ahead l)
+          (r .row-at .ensures) (h .before .before .gap-start .ensures) (h .before .gap-end .ensures) (h .share .ensures) (k .keep .ensures) (v .3),
     )
 
 same-length : tie.Need-same-length Inv-loop μ-loop

@@ -17,9 +17,7 @@ further-requires : tie.Need-further-requires
 further-requires c κs = search needs
 
 sub-store : tie.Need-sub-store
-sub-store c =
-    let at-start : tie.Start = search in
-    counted-some _ _ _ _ _ _ (at-start .pre .1 .0 .last) (c .before .before .counted .ensures)
+sub-store c = search counted-some
 
 sub-store-2 : tie.Need-sub-store-2
 sub-store-2 c = search needs
@@ -40,12 +38,7 @@ same-length-3 : tie.Need-same-length-3
 same-length-3 c = search needs
 
 returns : tie.Need-returns
-returns c =
-    let at-further : tie.After-further = search in
-    let at-store : tie.After-store = search in
-    let at-store-wide : tie.After-store-wide = search in
-    let at-start : tie.Start = search in
-    joins _ _ _ _ _ _ _ _ _ _ _ _ _ _ _ (at-start .pre .1 .0) (at-start .pre .1 .1 .1) (at-start .pre .1 .1 .2) (at-store-wide .store-wide .ensures) (at-store .store .ensures) (at-further .before .counted .ensures) (at-further .further .ensures) (c .before .before .store2 .ensures)
+returns c = search joins
 
 pub join-spec : {M : Type 1} → statement M
 join-spec =

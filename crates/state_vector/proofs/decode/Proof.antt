@@ -17,11 +17,7 @@ decode-spec =
     (λ c κs. search needs)
     (λ c. search needs)
     (λ c. search needs)
-    (λ c.
-    let at-clear : tie.After-clear = search in
-    let at-enum-told : tie.After-enum-told = search in
-    let at-start : tie.Start = search in
-    decodes-none (at-start .args .bytes .now) (at-start .args .at) (two (at-start .args .to-clients .now) (at-start .args .to-clocks .now)) (at-enum-told .enum-told .given .1) (c .why-u32 .ensures) (at-enum-told .before .before .read-u32 .ensures) (at-clear .clear .ensures))
+    (λ c. search decodes-none)
     (λ c κs. search needs)
     (λ c κs. c .before .before .most-rows .ensures)
     (λ c. search needs)

@@ -71,16 +71,8 @@ merge-rows-spec =
     let at-loop : tie.At-loop Inv-loop μ-loop = search in
     let s = at-loop .loop .inv in
     omega (arith, s .few, s .li, s .lj, s .ta .few, s .tb .few))
-    (λ c.
-    let at-lower : tie.After-lower Inv-loop μ-loop = search in
-    let at-else1 : tie.Else1 Inv-loop μ-loop = search in
-    step-less (at-else1 .before .loop-test .taken) (at-else1 .if1 .left) (at-lower .lower .ensures) (c .before .passed .ensures) (c .passed2 .ensures))
-    (λ c.
-    let at-store : tie.After-store Inv-loop μ-loop = search in
-    let at-larger : tie.After-larger Inv-loop μ-loop = search in
-    let at-counted : tie.After-counted Inv-loop μ-loop = search in
-    let at-else1 : tie.Else1 Inv-loop μ-loop = search in
-    uniting-more (at-else1 .before .before .loop .inv) (at-else1 .before .loop-test .taken) (at-else1 .if1 .left) (at-counted .before .before .lower .ensures) (record { clock = at-counted .counted .ensures; next = c .before .passed .ensures }) (record { clock = at-larger .before .counted2 .ensures; next = c .passed2 .ensures }) (at-larger .larger .ensures) (at-store .store .kept .0) (at-store .store .kept .1 .0) (at-store .store .ensures))
+    (λ c. search step-less)
+    (λ c. search uniting-more)
     (λ c κs.
     let at-loop : tie.At-loop Inv-loop μ-loop = search in
     let s = at-loop .loop .inv in

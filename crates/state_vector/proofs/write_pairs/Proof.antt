@@ -37,6 +37,4 @@ write-pairs-spec =
     (λ c. search needs)
     (λ c. search writing-more)
     (λ c. put-length (c .before .loop .inv .put))
-    (λ c.
-    let at-start : tie.Start Inv-loop μ-loop = search in
-    writing-all (at-start .pre .0) (at-start .pre .1) (c .before .loop .inv) (omega arith)))
+    (λ c. search (writing-all, needs)))
