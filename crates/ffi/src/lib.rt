@@ -24,7 +24,6 @@ use varint::ReadU8;
 use varint::ReadU32;
 use varint::ReadU64;
 use varint::ReadUsize;
-use varint::Refusal;
 use varint::SignedI8;
 use varint::SignedI16;
 use varint::SignedI32;
@@ -35,7 +34,6 @@ ghost use mathlib.Core.Path.{_≡_};
 ghost use lib.ListN.{length};
 ghost use Rattle.varint.specs.Number.{readAt, narrowed, bytesOf, writeAt};
 ghost use Rattle.varint.specs.Integer.{signedAt, plain, fitting, intBytes, writeSignedAt};
-ghost use Rattle.varint.specs.Answer.{noOf};
 ghost use Rattle.ranges.specs.Tables as of-ranges;
 ghost use Rattle.ids.specs.Rows.{row};
 ghost use Rattle.ids.specs.Tables as of-ids;
@@ -138,27 +136,13 @@ pub struct Vector {
     pub next: usize,
 }
 
-// Document 01's number of a refusal.
-fn no_of(e: Refusal) -> u32
-    ensures { λ r. ⌜ r ≡ noOf e ⌝ }
-{
-    match e {
-        Refusal::End => 1,
-        Refusal::Long => 2,
-        Refusal::Range => 3,
-        Refusal::Full => 4,
-        Refusal::Malformed => 5,
-        Refusal::Sign => 6,
-    }
-}
-
 fn place_of(got: Wrote, at: usize) -> Place
     ensures { λ r. ⌜ Placed at got r ⌝ }
 {
     match got {
         Wrote::Done(next) => Place { no: 0, next: next },
         Wrote::Refused(e) => Place {
-            no: no_of(e),
+            no: varint::no_of(e),
             next: at,
         },
     }
@@ -176,7 +160,7 @@ pub extern "C" fn iz_read_u8(bytes: &[u8], at: usize) -> Number
             next: next,
         },
         ReadU8::Refused(e) => Number {
-            no: no_of(e),
+            no: varint::no_of(e),
             value: 0,
             next: at,
         },
@@ -195,7 +179,7 @@ pub extern "C" fn iz_read_u32(bytes: &[u8], at: usize) -> Number
             next: next,
         },
         ReadU32::Refused(e) => Number {
-            no: no_of(e),
+            no: varint::no_of(e),
             value: 0,
             next: at,
         },
@@ -214,7 +198,7 @@ pub extern "C" fn iz_read_u64(bytes: &[u8], at: usize) -> Number
             next: next,
         },
         ReadU64::Refused(e) => Number {
-            no: no_of(e),
+            no: varint::no_of(e),
             value: 0,
             next: at,
         },
@@ -233,7 +217,7 @@ pub extern "C" fn iz_read_usize(bytes: &[u8], at: usize) -> Number
             next: next,
         },
         ReadUsize::Refused(e) => Number {
-            no: no_of(e),
+            no: varint::no_of(e),
             value: 0,
             next: at,
         },
@@ -253,7 +237,7 @@ pub extern "C" fn iz_read_i8(bytes: &[u8], at: usize) -> Integer
             next: next,
         },
         ReadI8::Refused(e) => Integer {
-            no: no_of(e),
+            no: varint::no_of(e),
             value: 0,
             is_negative: false,
             next: at,
@@ -274,7 +258,7 @@ pub extern "C" fn iz_read_i16(bytes: &[u8], at: usize) -> Integer
             next: next,
         },
         ReadI16::Refused(e) => Integer {
-            no: no_of(e),
+            no: varint::no_of(e),
             value: 0,
             is_negative: false,
             next: at,
@@ -295,7 +279,7 @@ pub extern "C" fn iz_read_i32(bytes: &[u8], at: usize) -> Integer
             next: next,
         },
         ReadI32::Refused(e) => Integer {
-            no: no_of(e),
+            no: varint::no_of(e),
             value: 0,
             is_negative: false,
             next: at,
@@ -316,7 +300,7 @@ pub extern "C" fn iz_read_i64(bytes: &[u8], at: usize) -> Integer
             next: next,
         },
         ReadI64::Refused(e) => Integer {
-            no: no_of(e),
+            no: varint::no_of(e),
             value: 0,
             is_negative: false,
             next: at,
@@ -337,7 +321,7 @@ pub extern "C" fn iz_read_isize(bytes: &[u8], at: usize) -> Integer
             next: next,
         },
         ReadIsize::Refused(e) => Integer {
-            no: no_of(e),
+            no: varint::no_of(e),
             value: 0,
             is_negative: false,
             next: at,
@@ -362,7 +346,7 @@ pub extern "C" fn iz_read_signed_i8(bytes: &[u8], at: usize) -> Integer
             }
         }
         ReadSignedI8::Refused(e) => Integer {
-            no: no_of(e),
+            no: varint::no_of(e),
             value: 0,
             is_negative: false,
             next: at,
@@ -387,7 +371,7 @@ pub extern "C" fn iz_read_signed_i16(bytes: &[u8], at: usize) -> Integer
             }
         }
         ReadSignedI16::Refused(e) => Integer {
-            no: no_of(e),
+            no: varint::no_of(e),
             value: 0,
             is_negative: false,
             next: at,
@@ -412,7 +396,7 @@ pub extern "C" fn iz_read_signed_i32(bytes: &[u8], at: usize) -> Integer
             }
         }
         ReadSignedI32::Refused(e) => Integer {
-            no: no_of(e),
+            no: varint::no_of(e),
             value: 0,
             is_negative: false,
             next: at,
@@ -437,7 +421,7 @@ pub extern "C" fn iz_read_signed_i64(bytes: &[u8], at: usize) -> Integer
             }
         }
         ReadSignedI64::Refused(e) => Integer {
-            no: no_of(e),
+            no: varint::no_of(e),
             value: 0,
             is_negative: false,
             next: at,
@@ -462,7 +446,7 @@ pub extern "C" fn iz_read_signed_isize(bytes: &[u8], at: usize) -> Integer
             }
         }
         ReadSignedIsize::Refused(e) => Integer {
-            no: no_of(e),
+            no: varint::no_of(e),
             value: 0,
             is_negative: false,
             next: at,
@@ -672,7 +656,7 @@ fn rows_of(got: Made) -> Rows
     match got {
         Made::Rows(n) => Rows { no: 0, count: n },
         Made::Refused(e) => Rows {
-            no: no_of(e),
+            no: varint::no_of(e),
             count: 0,
         },
     }
@@ -688,7 +672,7 @@ fn yes_no(got: Told) -> YesNo
             value: false,
         },
         Told::Refused(e) => YesNo {
-            no: no_of(e),
+            no: varint::no_of(e),
             value: false,
         },
     }
@@ -700,7 +684,7 @@ fn count_of(got: Counted) -> Count
     match got {
         Counted::Is(n) => Count { no: 0, value: n },
         Counted::Refused(e) => Count {
-            no: no_of(e),
+            no: varint::no_of(e),
             value: 0,
         },
     }
@@ -721,7 +705,7 @@ fn index_of(got: ranges::Place) -> Index
             value: 0,
         },
         ranges::Place::Refused(e) => Index {
-            no: no_of(e),
+            no: varint::no_of(e),
             some: false,
             value: 0,
         },
@@ -743,7 +727,7 @@ fn bound_of(got: Edge) -> Bound
             value: 0,
         },
         Edge::Refused(e) => Bound {
-            no: no_of(e),
+            no: varint::no_of(e),
             some: false,
             value: 0,
         },
@@ -767,7 +751,7 @@ fn row_of(got: Found) -> Row
             end: 0,
         },
         Found::Refused(e) => Row {
-            no: no_of(e),
+            no: varint::no_of(e),
             some: false,
             start: 0,
             end: 0,
@@ -781,7 +765,7 @@ fn value_of(got: Got) -> Value
     match got {
         Got::Is(c) => Value { no: 0, value: c.0 },
         Got::Refused(e) => Value {
-            no: no_of(e),
+            no: varint::no_of(e),
             value: 0,
         },
     }
@@ -796,7 +780,7 @@ fn verdict_of(got: Order) -> Verdict
         Order::Greater => Verdict { no: 0, value: 3 },
         Order::Nothing => Verdict { no: 0, value: 0 },
         Order::Refused(e) => Verdict {
-            no: no_of(e),
+            no: varint::no_of(e),
             value: 0,
         },
     }
@@ -812,7 +796,7 @@ fn vector_of(got: Decoded, at: usize) -> Vector
             next: next,
         },
         Decoded::Refused(e) => Vector {
-            no: no_of(e),
+            no: varint::no_of(e),
             count: 0,
             next: at,
         },

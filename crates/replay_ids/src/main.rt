@@ -17,132 +17,7 @@
 // NO is document 01's number, 0 for done. LEFT says how many elements behind the rows are not zero, in the three slices together.
 // The input comes in blocks of 65,536 bytes: whole lines, and spaces from the last of them to the block's end (the last block ends anywhere).
 ghost use Prim.Native.Nat.{_≤_};
-ghost use mathlib.Core.Path.{_≡_};
 ghost use lib.ListN.{length};
-
-// The numbers of a line, and the place behind it.
-struct Read {
-    count: usize,
-    next: usize,
-}
-
-// Ten times x and the digit c, or 0 where c is no digit or that is too much.
-fn digit(x: u64, c: u8) -> u64 {
-    if c < 48 {
-        return 0;
-    }
-    if 57 < c {
-        return 0;
-    }
-    if 1844674407370955161 < x {
-        return 0;
-    }
-    let y = x * 10;
-    let d = (c - 48) as u64;
-    if 18446744073709551615 - y < d {
-        return 0;
-    }
-    y + d
-}
-
-// The rest of n numbers, each `step` above the one before it, from place k on, and how many numbers there are then.
-fn rest(args: &mut [u64], k: usize, step: u64, n: u64) -> usize
-    ensures { λ _. ⌜ length (now (args .exit)) ≡ length (now (args .entry)) ⌝ }
-{
-    let mut k = k;
-    let mut i: u64 = 1;
-    while i < n {
-        if args.len() <= k {
-            return k;
-        }
-        if k == 0 {
-            return k;
-        }
-        let x = std::num::wrapping_add_u64(args[k - 1], step);
-        args[k] = x;
-        k += 1;
-        i += 1;
-    }
-    k
-}
-
-// A number x that ended, with the byte before it: the next number, or how many follow by the step. How many numbers there are then.
-fn put(args: &mut [u64], k: usize, x: u64, step: u64, lead: u8) -> usize
-    ensures { λ _. ⌜ length (now (args .exit)) ≡ length (now (args .entry)) ⌝ }
-{
-    if lead == b'+' {
-        return k;
-    }
-    if lead == b'*' {
-        return rest(args, k, step, x);
-    }
-    if args.len() <= k {
-        return k;
-    }
-    let next = k + 1;
-    args[k] = x;
-    next
-}
-
-// The same where a number ended; otherwise nothing.
-fn put_if(args: &mut [u64], k: usize, x: u64, step: u64, lead: u8, ended: bool) -> usize
-    ensures { λ _. ⌜ length (now (args .exit)) ≡ length (now (args .entry)) ⌝ }
-{
-    if ended {
-        put(args, k, x, step, lead)
-    } else {
-        k
-    }
-}
-
-// The step after a number x.
-fn stepped(step: u64, x: u64, lead: u8, ended: bool) -> u64 {
-    if !ended {
-        return step;
-    }
-    if lead == b'+' { x } else { 0 }
-}
-
-// The numbers of the line that starts at `from`.
-fn line(b: &[u8], from: usize, args: &mut [u64]) -> Read {
-    let mut i = from;
-    let mut k: usize = 0;
-    let mut x: u64 = 0;
-    let mut step: u64 = 0;
-    let mut lead: u8 = 32;
-    let mut within = false;
-    while i < b.len() {
-        let c = b[i];
-        i += 1;
-        let is_digit = (48 <= c) & (c < 58);
-        let ended = within & !is_digit;
-        k = put_if(args, k, x, step, lead, ended);
-        step = stepped(step, x, lead, ended);
-        lead = if is_digit { lead } else { c };
-        x = digit(x, c);
-        within = is_digit;
-        if c == 10 {
-            return Read { count: k, next: i };
-        }
-    }
-    Read { count: k, next: i }
-}
-
-// A case: its numbers are args[..count].
-fn number(args: &[u64], i: usize) -> u64 {
-    if i < args.len() { args[i] } else { 0 }
-}
-
-fn clock(args: &[u64], i: usize) -> u32 {
-    (number(args, i) % 4294967296) as u32
-}
-
-// At most as many as `most`.
-fn within(x: u64, most: usize) -> usize
-    ensures { λ r. ⌜ r ≤ most ⌝ }
-{
-    if x < most as u64 { x as usize } else { most }
-}
 
 // A table of the line: its count, how many clients, starts and ends it has, and the place behind it.
 struct Given {
@@ -153,43 +28,28 @@ struct Given {
     next: usize,
 }
 
-fn clocks(args: &[u64], from: usize, n: usize, out: &mut [u32]) {
-    let mut i: usize = 0;
-    while i < n {
-        if out.len() <= i {
-            return;
-        }
-        let x = clock(args, std::num::wrapping_add_usize(from, i));
-        out[i] = x;
-        i += 1;
-    }
+// The length at a place of the line, at most `most`.
+fn size(args: &[u64], at: usize, most: usize) -> usize
+    ensures { λ r. ⌜ r ≤ most ⌝ }
+{
+    lines::within(lines::number(args, at), most)
 }
 
-fn clients(args: &[u64], from: usize, n: usize, out: &mut [u64]) {
-    let mut i: usize = 0;
-    while i < n {
-        if out.len() <= i {
-            return;
-        }
-        let x = number(args, std::num::wrapping_add_usize(from, i));
-        out[i] = x;
-        i += 1;
-    }
-}
-
-// The table that starts at `at`, in slices of 1,100 elements.
-fn table(args: &[u64], at: usize, c: &mut [u64], s: &mut [u32], e: &mut [u32]) -> Given {
-    let x = within(number(args, std::num::wrapping_add_usize(at, 1)), 1100);
-    let y = within(number(args, std::num::wrapping_add_usize(at, 2)), 1100);
-    let z = within(number(args, std::num::wrapping_add_usize(at, 3)), 1100);
+// The table that starts at `at`, at the front of three slices.
+fn table(args: &[u64], at: usize, c: &mut [u64], s: &mut [u32], e: &mut [u32]) -> Given
+    ensures { λ r. ⌜ (r .x ≤ length (now (c .exit))) × (r .y ≤ length (now (s .exit))) × (r .z ≤ length (now (e .exit))) ⌝ }
+{
+    let x = size(args, std::num::wrapping_add_usize(at, 1), c.len());
+    let y = size(args, std::num::wrapping_add_usize(at, 2), s.len());
+    let z = size(args, std::num::wrapping_add_usize(at, 3), e.len());
     let first = std::num::wrapping_add_usize(at, 4);
     let second = std::num::wrapping_add_usize(first, x);
     let third = std::num::wrapping_add_usize(second, y);
-    clients(args, first, x, c);
-    clocks(args, second, y, s);
-    clocks(args, third, z, e);
+    lines::clients(args, first, &mut c[..x]);
+    lines::clocks(args, second, &mut s[..y]);
+    lines::clocks(args, third, &mut e[..z]);
     Given {
-        count: number(args, at) as usize,
+        count: lines::number(args, at) as usize,
         x: x,
         y: y,
         z: z,
@@ -197,112 +57,49 @@ fn table(args: &[u64], at: usize, c: &mut [u64], s: &mut [u32], e: &mut [u32]) -
     }
 }
 
-// Document 01's number.
-fn no(e: varint::Refusal) -> u64 {
-    match e {
-        varint::Refusal::End => 1,
-        varint::Refusal::Long => 2,
-        varint::Refusal::Range => 3,
-        varint::Refusal::Full => 4,
-        varint::Refusal::Malformed => 5,
-        varint::Refusal::Sign => 6,
-    }
-}
-
-fn say(x: u64) {
-    io::print_decimal(1, x);
-}
-
-fn gap() {
-    io::write_all(1, &[32]);
-}
-
-fn two(x: u64, y: u64) {
-    say(x);
-    gap();
-    say(y);
-}
-
-fn wide(x: u32) -> u64 {
-    x as u64
-}
-
-fn some(x: u64) -> u64 {
-    if x == 0 { 0 } else { 1 }
-}
-
-// How many elements are not zero.
-fn left(s: &[u32]) -> u64 {
-    let mut k: u64 = 0;
-    let mut i: usize = 0;
-    while i < s.len() {
-        k = std::num::wrapping_add_u64(k, some(wide(s[i])));
-        i += 1;
-    }
-    k
-}
-
-fn left_wide(s: &[u64]) -> u64 {
-    let mut k: u64 = 0;
-    let mut i: usize = 0;
-    while i < s.len() {
-        k = std::num::wrapping_add_u64(k, some(s[i]));
-        i += 1;
-    }
-    k
-}
-
-fn rows(c: &[u64], s: &[u32], e: &[u32], k: usize)
+// The first k rows, from place `at` of the answer on.
+fn rows(said: &mut [u64], at: usize, c: &[u64], s: &[u32], e: &[u32], k: usize) -> usize
     requires { ⌜ (k ≤ length (now c)) × (k ≤ length (now s)) × (k ≤ length (now e)) ⌝ }
 {
+    let mut j = at;
     let mut i: usize = 0;
     while i < k {
-        gap();
-        two(c[i], wide(s[i]));
-        gap();
-        say(wide(e[i]));
+        j = row(said, j, c[i], s[i], e[i]);
         i += 1;
     }
+    j
 }
 
-// The count of rows made.
-fn count(made: tables::Made) -> usize {
-    match made {
-        tables::Made::Rows(k) => k,
-        tables::Made::Refused(_) => 0,
-    }
+fn row(said: &mut [u64], at: usize, client: u64, start: u32, end: u32) -> usize {
+    let j = lines::put(said, at, client);
+    let k = lines::put(said, j, start as u64);
+    lines::put(said, k, end as u64)
 }
 
-fn number_of(made: tables::Made) -> u64 {
-    match made {
-        tables::Made::Rows(_) => 0,
-        tables::Made::Refused(e) => no(e),
-    }
-}
-
-fn show(made: tables::Made, c: &[u64], s: &[u32], e: &[u32]) {
-    let k = count(made);
-    two(number_of(made), k as u64);
+fn show(said: &mut [u64], made: tables::Made, c: &[u64], s: &[u32], e: &[u32]) -> usize {
+    let j = lines::made(said, made);
+    let k = lines::rows(made);
     if c.len() < k {
-        return;
+        return j;
     }
     if s.len() < k {
-        return;
+        return j;
     }
     if e.len() < k {
-        return;
+        return j;
     }
-    gap();
-    say(std::num::wrapping_add_u64(
-        left_wide(&c[k..]),
-        std::num::wrapping_add_u64(left(&s[k..]), left(&e[k..])),
-    ));
-    rows(c, s, e, k);
+    let left = std::num::wrapping_add_usize(
+        lines::left_wide(&c[k..]),
+        std::num::wrapping_add_usize(lines::left(&s[k..]), lines::left(&e[k..])),
+    );
+    let i = lines::put(said, j, left as u64);
+    rows(said, i, c, s, e, k)
 }
 
-// The table before it and the other one, in one case of a routine that writes a table.
-fn combine(
+// A routine that writes a table.
+fn make(
     op: u8,
+    args: &[u64],
     ac: &[u64],
     aa: &[u32],
     ae: &[u32],
@@ -321,29 +118,20 @@ fn combine(
     if op == b'x' {
         return ids::diff(ac, aa, ae, n, bc, ba, be, m, c, s, e);
     }
-    ids::intersect(ac, aa, ae, n, bc, ba, be, m, c, s, e)
+    if op == b'i' {
+        return ids::intersect(ac, aa, ae, n, bc, ba, be, m, c, s, e);
+    }
+    if op == b'k' {
+        return ids::capture(ac, aa, ae, n, c, s, e);
+    }
+    let client = tables::Client(lines::number(args, 3));
+    let start = tables::Clock(lines::clock(args, 4));
+    let end = tables::Clock(lines::clock(args, 5));
+    ids::insert_range(ac, aa, ae, n, client, start, end, c, s, e)
 }
 
-fn combine_in(
-    op: u8,
-    ac: &[u64],
-    aa: &[u32],
-    ae: &[u32],
-    n: usize,
-    bc: &[u64],
-    ba: &[u32],
-    be: &[u32],
-    m: usize,
-    c: &mut [u64],
-    s: &mut [u32],
-    e: &mut [u32],
-) {
-    let made = combine(op, ac, aa, ae, n, bc, ba, be, m, c, s, e);
-    show(made, c, s, e);
-}
-
-// The output slices cut to the lengths that the case gives.
-fn both_out(
+// Its case, cut down step by step: the first table, the second, the output.
+fn make_out(
     op: u8,
     args: &[u64],
     ac: &[u64],
@@ -357,12 +145,14 @@ fn both_out(
     c: &mut [u64],
     s: &mut [u32],
     e: &mut [u32],
-) {
-    let p = within(number(args, 0), c.len());
-    let q = within(number(args, 1), s.len());
-    let r = within(number(args, 2), e.len());
-    combine_in(
+    said: &mut [u64],
+) -> usize {
+    let x = size(args, 0, c.len());
+    let y = size(args, 1, s.len());
+    let z = size(args, 2, e.len());
+    let made = make(
         op,
+        args,
         ac,
         aa,
         ae,
@@ -371,53 +161,37 @@ fn both_out(
         ba,
         be,
         m,
-        &mut c[..p],
-        &mut s[..q],
-        &mut e[..r],
+        &mut c[..x],
+        &mut s[..y],
+        &mut e[..z],
     );
+    show(said, made, &c[..x], &s[..y], &e[..z])
 }
 
-// The tables cut to their lengths.
-fn both_cut(
+fn make_second(
     op: u8,
     args: &[u64],
+    at: usize,
     ac: &[u64],
     aa: &[u32],
     ae: &[u32],
-    p: Given,
-    bc: &[u64],
-    ba: &[u32],
-    be: &[u32],
-    q: Given,
+    n: usize,
+    bc: &mut [u64],
+    ba: &mut [u32],
+    be: &mut [u32],
     c: &mut [u64],
     s: &mut [u32],
     e: &mut [u32],
-) {
-    if ac.len() < p.x {
-        return;
-    }
-    if aa.len() < p.y {
-        return;
-    }
-    if ae.len() < p.z {
-        return;
-    }
-    if bc.len() < q.x {
-        return;
-    }
-    if ba.len() < q.y {
-        return;
-    }
-    if be.len() < q.z {
-        return;
-    }
-    both_out(
+    said: &mut [u64],
+) -> usize {
+    let q = table(args, at, bc, ba, be);
+    make_out(
         op,
         args,
-        &ac[..p.x],
-        &aa[..p.y],
-        &ae[..p.z],
-        p.count,
+        ac,
+        aa,
+        ae,
+        n,
         &bc[..q.x],
         &ba[..q.y],
         &be[..q.z],
@@ -425,12 +199,14 @@ fn both_cut(
         c,
         s,
         e,
-    );
+        said,
+    )
 }
 
-fn both_in(
+fn make_first(
     op: u8,
     args: &[u64],
+    at: usize,
     ac: &mut [u64],
     aa: &mut [u32],
     ae: &mut [u32],
@@ -440,14 +216,29 @@ fn both_in(
     c: &mut [u64],
     s: &mut [u32],
     e: &mut [u32],
-) {
-    let p = table(args, 3, ac, aa, ae);
-    let q = table(args, p.next, bc, ba, be);
-    both_cut(op, args, ac, aa, ae, p, bc, ba, be, q, c, s, e);
+    said: &mut [u64],
+) -> usize {
+    let p = table(args, at, ac, aa, ae);
+    make_second(
+        op,
+        args,
+        p.next,
+        &ac[..p.x],
+        &aa[..p.y],
+        &ae[..p.z],
+        p.count,
+        bc,
+        ba,
+        be,
+        c,
+        s,
+        e,
+        said,
+    )
 }
 
-// The case of a routine over two tables.
-fn both(op: u8, args: &[u64]) {
+// The tables stand at `at`; where there is one, the other is empty.
+fn making(op: u8, args: &[u64], at: usize, said: &mut [u64]) -> usize {
     let mut ac = [0u64; 1100];
     let mut aa = [0u32; 1100];
     let mut ae = [0u32; 1100];
@@ -457,9 +248,10 @@ fn both(op: u8, args: &[u64]) {
     let mut c = [18446744073709551615u64; 1100];
     let mut s = [4294967295u32; 1100];
     let mut e = [4294967295u32; 1100];
-    both_in(
+    make_first(
         op,
         args,
+        at,
         &mut ac,
         &mut aa,
         &mut ae,
@@ -469,244 +261,94 @@ fn both(op: u8, args: &[u64]) {
         &mut c,
         &mut s,
         &mut e,
-    );
+        said,
+    )
 }
 
-fn edit(
+fn question(
     op: u8,
     args: &[u64],
-    ac: &[u64],
-    aa: &[u32],
-    ae: &[u32],
+    c: &[u64],
+    s: &[u32],
+    e: &[u32],
     n: usize,
-    c: &mut [u64],
-    s: &mut [u32],
-    e: &mut [u32],
-) {
-    if op == b'n' {
-        let made = ids::insert_range(
-            ac,
-            aa,
-            ae,
-            n,
-            tables::Client(number(args, 3)),
-            tables::Clock(clock(args, 4)),
-            tables::Clock(clock(args, 5)),
-            c,
-            s,
-            e,
-        );
-        show(made, c, s, e);
-    } else {
-        let made = ids::capture(ac, aa, ae, n, c, s, e);
-        show(made, c, s, e);
+    said: &mut [u64],
+) -> usize {
+    match op {
+        b'c' => lines::told(
+            said,
+            ids::contains(
+                c,
+                s,
+                e,
+                n,
+                tables::Client(lines::number(args, 0)),
+                tables::Clock(lines::clock(args, 1)),
+            ),
+        ),
+        b'z' => lines::told(said, ids::is_empty(c, s, e, n)),
+        _ => lines::counted(said, ids::len(c, s, e, n)),
     }
 }
 
-fn edit_out(
-    op: u8,
-    args: &[u64],
-    ac: &[u64],
-    aa: &[u32],
-    ae: &[u32],
-    n: usize,
-    c: &mut [u64],
-    s: &mut [u32],
-    e: &mut [u32],
-) {
-    let p = within(number(args, 0), c.len());
-    let q = within(number(args, 1), s.len());
-    let r = within(number(args, 2), e.len());
-    edit(
-        op,
-        args,
-        ac,
-        aa,
-        ae,
-        n,
-        &mut c[..p],
-        &mut s[..q],
-        &mut e[..r],
-    );
-}
-
-fn edit_cut(
-    op: u8,
-    args: &[u64],
-    ac: &[u64],
-    aa: &[u32],
-    ae: &[u32],
-    p: Given,
-    c: &mut [u64],
-    s: &mut [u32],
-    e: &mut [u32],
-) {
-    if ac.len() < p.x {
-        return;
-    }
-    if aa.len() < p.y {
-        return;
-    }
-    if ae.len() < p.z {
-        return;
-    }
-    edit_out(
-        op,
-        args,
-        &ac[..p.x],
-        &aa[..p.y],
-        &ae[..p.z],
-        p.count,
-        c,
-        s,
-        e,
-    );
-}
-
-fn one_in(
+fn ask_in(
     op: u8,
     args: &[u64],
     first: usize,
-    ac: &mut [u64],
-    aa: &mut [u32],
-    ae: &mut [u32],
     c: &mut [u64],
     s: &mut [u32],
     e: &mut [u32],
-) {
-    let p = table(args, first, ac, aa, ae);
-    edit_cut(op, args, ac, aa, ae, p, c, s, e);
-}
-
-// The case of an insert or a capture.
-fn one(op: u8, args: &[u64], first: usize) {
-    let mut ac = [0u64; 1100];
-    let mut aa = [0u32; 1100];
-    let mut ae = [0u32; 1100];
-    let mut c = [18446744073709551615u64; 1100];
-    let mut s = [4294967295u32; 1100];
-    let mut e = [4294967295u32; 1100];
-    one_in(
-        op,
-        args,
-        first,
-        &mut ac,
-        &mut aa,
-        &mut ae,
-        &mut c,
-        &mut s,
-        &mut e,
-    );
-}
-
-fn told(r: tables::Told) {
-    match r {
-        tables::Told::Yes => two(0, 1),
-        tables::Told::No => two(0, 0),
-        tables::Told::Refused(e) => two(no(e), 0),
-    }
-}
-
-fn counted(r: tables::Counted) {
-    match r {
-        tables::Counted::Is(n) => two(0, n as u64),
-        tables::Counted::Refused(e) => two(no(e), 0),
-    }
-}
-
-fn question(op: u8, args: &[u64], c: &[u64], s: &[u32], e: &[u32], n: usize) {
-    match op {
-        b'c' => told(ids::contains(
-            c,
-            s,
-            e,
-            n,
-            tables::Client(number(args, 0)),
-            tables::Clock(clock(args, 1)),
-        )),
-        b'z' => told(ids::is_empty(c, s, e, n)),
-        _ => counted(ids::len(c, s, e, n)),
-    }
-}
-
-fn question_cut(op: u8, args: &[u64], c: &[u64], s: &[u32], e: &[u32], p: Given) {
-    if c.len() < p.x {
-        return;
-    }
-    if s.len() < p.y {
-        return;
-    }
-    if e.len() < p.z {
-        return;
-    }
-    question(op, args, &c[..p.x], &s[..p.y], &e[..p.z], p.count);
-}
-
-fn ask_in(op: u8, args: &[u64], first: usize, c: &mut [u64], s: &mut [u32], e: &mut [u32]) {
+    said: &mut [u64],
+) -> usize {
     let p = table(args, first, c, s, e);
-    question_cut(op, args, c, s, e, p);
+    question(op, args, &c[..p.x], &s[..p.y], &e[..p.z], p.count, said)
 }
 
 // The case of a question about a table, with an id before it or none.
-fn ask(op: u8, args: &[u64], first: usize) {
+fn ask(op: u8, args: &[u64], first: usize, said: &mut [u64]) -> usize {
     let mut c = [0u64; 1100];
     let mut s = [0u32; 1100];
     let mut e = [0u32; 1100];
-    ask_in(op, args, first, &mut c, &mut s, &mut e);
+    ask_in(op, args, first, &mut c, &mut s, &mut e, said)
 }
 
-fn answer(op: u8, args: &[u64]) {
+fn answer(op: u8, args: &[u64], said: &mut [u64]) -> usize {
     match op {
-        b'm' | b'x' | b'i' => both(op, args),
-        b'n' => one(op, args, 6),
-        b'k' => one(op, args, 3),
-        b'c' => ask(op, args, 2),
-        b'z' | b'l' => ask(op, args, 0),
-        _ => {}
-    }
-    io::write_all(1, &[10]);
-}
-
-fn front(op: u8, args: &[u64], n: usize) {
-    if n <= args.len() {
-        answer(op, &args[..n]);
+        b'm' | b'x' | b'i' | b'k' => making(op, args, 3, said),
+        b'n' => making(op, args, 6, said),
+        b'c' => ask(op, args, 2, said),
+        b'z' | b'l' => ask(op, args, 0, said),
+        _ => 0,
     }
 }
 
-fn run(b: &[u8], args: &mut [u64]) {
+// The lines of a block, each answered by one.
+fn run(b: &[u8], args: &mut [u64], said: &mut [u64], text: &mut [u8]) {
     let mut at: usize = 0;
-    let mut turns: usize = 0;
-    while turns < 65536 {
-        if b.len() <= at {
-            return;
-        }
+    while at < b.len() {
         let op = b[at];
         if op == b' ' {
             return;
         }
-        let l = line(b, at, args);
+        let l = lines::line(b, at, args);
+        let n = l.count;
+        let k = answer(op, &args[..n], said);
+        let m = lines::within(k as u64, said.len());
+        let t = lines::text(&said[..m], text);
+        io::write_all(1, &text[..t]);
         at = l.next;
-        front(op, args, l.count);
-        turns += 1;
     }
 }
 
-fn numbers() -> [u64; 8200]
-    ensures { λ r. ⌜ 8200 ≡ length r ⌝ }
-{
-    [0; 8200]
-}
-
-// One block of the input.
+// One block of the input, or none.
 fn block() -> bool {
     let mut space = io::large_buffer();
     let got = io::read_full(0, &mut space);
-    if got == 0 {
-        return false;
-    }
-    let mut args = numbers();
-    run(&space[..got], &mut args);
-    true
+    let mut args = [0u64; 8200];
+    let mut said = [0u64; 4200];
+    let mut text = io::large_buffer();
+    run(&space[..got], &mut args, &mut said, &mut text);
+    0 < got
 }
 
 fn main() {

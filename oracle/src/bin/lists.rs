@@ -196,7 +196,7 @@ fn numbers(mut l: List) -> List {
 fn words<T: ToString>(v: &[T]) -> String { v.iter().map(|x| format!(" {}", x.to_string())).collect() }
 fn yes(a: &Answer) -> String { format!("{} {}", a.no, a.some as u8) }
 fn count(a: &Answer) -> String { format!("{} {}", a.no, a.value) }
-fn maybe(a: &Answer) -> String { if a.some { count(a) } else { format!("{} none", a.no) } }
+fn maybe(a: &Answer) -> String { if a.some { count(a) } else { a.no.to_string() } }
 
 fn range_case(line: &str) -> Case {
     let mut l = Line::of(line);
@@ -226,7 +226,7 @@ fn range_said(c: &Case) -> Option<(String, String)> {
         ClockEnd => (format!("e {x}"), maybe(&a)),
         Len => (format!("l {x}"), count(&a)),
         IsEmpty => (format!("z {x}"), yes(&a)),
-        Get => (format!("g {} {x}", c.start), if a.some { format!("{} {} {}", a.no, a.value, a.second) } else { format!("{} none", a.no) }),
+        Get => (format!("g {} {x}", c.start), if a.some { format!("{} {} {}", a.no, a.value, a.second) } else { a.no.to_string() }),
         _ => unreachable!(),
     };
     Some((line, answer))

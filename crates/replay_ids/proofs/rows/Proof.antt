@@ -1,14 +1,16 @@
 -- `replay_ids::rows` meets its contract. Assumes nothing.
+use mathlib.Core.Path.{_≡_}
 use Prim.Native.Nat.{_-_}
+use lib.ListN.{length}
 use borrow.Author.Needs.{needs}
 use Rattle.replay_ids.proofs.rows.Statement.{statement}
 use Rattle.replay_ids.proofs.rows.Tie as tie
 
 abbrev Inv-loop : tie.InvT-loop
-Inv-loop c s e k i₀ i = Unit {0}
+Inv-loop said₀ at c s e k j₀ i₀ said j i = length said ≡ length said₀
 
 abbrev μ-loop : tie.MeasureT-loop
-μ-loop c s e k i₀ i = k - i
+μ-loop said₀ at c s e k j₀ i₀ said j i = k - i
 
 pub rows-spec : {M : Type 1} → statement M
 rows-spec =
@@ -17,18 +19,14 @@ rows-spec =
     Inv-loop
     μ-loop
     (λ c. search needs)
-    (λ c κs. search needs)
     (λ c. search needs)
     (λ c. search needs)
     (λ c. search needs)
     (λ c. search needs)
-    (λ c κs. search needs)
-    (λ c κs. search needs)
-    (λ c κs. search needs)
     (λ c. search needs)
     (λ c. search needs)
     (λ c κs. search needs)
-    (λ c κs. search needs)
+    (λ c. search needs)
     (λ c. search needs)
     (λ c. search needs)
     (λ c. search needs)

@@ -12,10 +12,9 @@ show-spec =
     (tie.spec
     (λ c κs. search needs)
     (λ c κs. search needs)
-    (λ c κs. search needs)
     (λ c. search needs)
     (λ c. search needs)
-    (λ c κs. search needs)
+    (λ c. search needs)
     (λ c. search needs)
     (λ c. search needs)
     (λ c. search needs)
@@ -24,4 +23,5 @@ show-spec =
     (λ c κs. search needs)
     (λ c. sym (length-take-le _ _ (omega arith)))
     (λ c κs. search needs)
+    (λ c. search needs)
     (λ c. search needs))
