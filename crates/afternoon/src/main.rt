@@ -19,18 +19,6 @@ fn empty() -> Table {
     }
 }
 
-// Document 01's number of a refusal.
-fn number(r: varint::Refusal) -> u32 {
-    match r {
-        varint::Refusal::End => 1,
-        varint::Refusal::Long => 2,
-        varint::Refusal::Range => 3,
-        varint::Refusal::Full => 4,
-        varint::Refusal::Malformed => 5,
-        varint::Refusal::Sign => 6,
-    }
-}
-
 // "An insert or merge reads the desk's table and writes a spare one, which becomes the desk's only if the step is accepted": else `t` stays.
 fn settled(
     a: tables::Made,
@@ -56,7 +44,7 @@ fn settled(
                 starts: s,
                 ends: e,
                 count: t.count,
-                no: number(r),
+                no: varint::no_of(r),
             }
         }
     }

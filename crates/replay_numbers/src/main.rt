@@ -139,18 +139,6 @@ fn integer(v: i64) {
     decimal(varint::magnitude(v));
 }
 
-// Document 01's number of a refusal.
-fn number_of(e: Refusal) -> u64 {
-    match e {
-        Refusal::End => 1,
-        Refusal::Long => 2,
-        Refusal::Range => 3,
-        Refusal::Full => 4,
-        Refusal::Malformed => 5,
-        Refusal::Sign => 6,
-    }
-}
-
 fn unsigned(value: u64, place: usize) {
     out(b"0 ");
     decimal(value);
@@ -177,13 +165,13 @@ fn flagged(value: i64, is_negative: bool, place: usize) {
 }
 
 fn refused(e: Refusal, place: usize) {
-    decimal(number_of(e));
+    decimal(varint::no_of(e) as u64);
     out(b" 0 ");
     decimal(place as u64);
 }
 
 fn refused_flagged(e: Refusal, place: usize) {
-    decimal(number_of(e));
+    decimal(varint::no_of(e) as u64);
     out(b" 0 0 ");
     decimal(place as u64);
 }
@@ -553,7 +541,7 @@ fn write_part(kind: u64, at: usize, m: u64, below: bool, minus: bool, buf: &mut 
     let wrote = write_value(kind, m, below, minus, buf, at);
     match wrote {
         Wrote::Done(p) => placed(0, p),
-        Wrote::Refused(e) => placed(number_of(e), at),
+        Wrote::Refused(e) => placed(varint::no_of(e) as u64, at),
     }
     hex(buf);
 }
