@@ -5,13 +5,6 @@ use Rattle.ids.proofs.Answering.{checked-walked, captured-of}
 use borrow.Author.Needs.{needs}
 use Rattle.ids.proofs.capture.Statement.{statement}
 use Rattle.ids.proofs.capture.Tie as tie
-use Rattle.ids.proofs.capture.Reads as reads
-use Rattle.ids.proofs.capture.Lts as lts
-use Rattle.ids.proofs.copy_rows.Reads as copy-rows-reads
-use Rattle.ids.proofs.finish.Reads as finish-reads
-use Rattle.ids.proofs.most_rows.Reads as most-rows-reads
-use Rattle.ids.proofs.pick_place.Reads as pick-place-reads
-use Rattle.ids.proofs.well_formed.Reads as well-formed-reads
 
 well-formed-requires : tie.Need-well-formed-requires
 well-formed-requires c κs = search needs

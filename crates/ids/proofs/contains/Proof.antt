@@ -4,10 +4,6 @@ use Rattle.ids.proofs.Asking.{told-refused, told-held, told-absent}
 use borrow.Author.Needs.{needs}
 use Rattle.ids.proofs.contains.Statement.{statement}
 use Rattle.ids.proofs.contains.Tie as tie
-use Rattle.ids.proofs.contains.Reads as reads
-use Rattle.ids.proofs.contains.Lts as lts
-use Rattle.ids.proofs.search.Reads as search-reads
-use Rattle.ids.proofs.well_formed.Reads as well-formed-reads
 
 well-formed-requires : tie.Need-well-formed-requires
 well-formed-requires c κs = search needs

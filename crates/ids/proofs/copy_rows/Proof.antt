@@ -3,10 +3,6 @@ use Rattle.ids.proofs.Splicing.{copied-rows, copied-over}
 use borrow.Author.Needs.{needs}
 use Rattle.ids.proofs.copy_rows.Statement.{statement}
 use Rattle.ids.proofs.copy_rows.Tie as tie
-use Rattle.ids.proofs.copy_rows.Reads as reads
-use Rattle.ids.proofs.copy_rows.Lts as lts
-use Rattle.ids.proofs.shift.Reads as shift-reads
-use Rattle.ids.proofs.shift_wide.Reads as shift-wide-reads
 
 returns : tie.Need-returns
 returns c = search copied-over

@@ -7,9 +7,6 @@ use Rattle.ids.specs.Inner.{numberOf, marks}
 use borrow.Author.Needs.{needs}
 use Rattle.ids.proofs.count_below.Statement.{statement}
 use Rattle.ids.proofs.count_below.Tie as tie
-use Rattle.ids.proofs.count_below.Reads as reads
-use Rattle.ids.proofs.count_below.Lts as lts
-use Rattle.ids.proofs.past.Reads as past-reads
 
 abbrev Inv-loop : tie.InvT-loop
 Inv-loop clients clocks n i c x lo₀ hi₀ lo hi = Parted (marks clients clocks) n (numberOf c x) lo hi × (i ≤ lo)

@@ -10,11 +10,6 @@ use Rattle.ids.proofs.Numbering.{links}
 use Rattle.ids.proofs.Sharing.{crossing-more}
 use Rattle.ids.proofs.cross.Statement.{statement}
 use Rattle.ids.proofs.cross.Tie as tie
-use Rattle.ids.proofs.cross.Reads as reads
-use Rattle.ids.proofs.cross.Lts as lts
-use Rattle.ids.proofs.keep.Reads as keep-reads
-use Rattle.ids.proofs.row_at.Reads as row-at-reads
-use Rattle.ids.proofs.share.Reads as share-reads
 
 abbrev Inv-loop : tie.InvT-loop
 Inv-loop clients starts ends n b-clients b-starts b-ends m to-clients₀ to-starts₀ to-ends₀ most i₀ j₀ k₀ to-clients to-starts to-ends i j k =
@@ -44,14 +39,10 @@ returns c =
     crossed-right _ _ _ _ _ (λ _. refl) (λ _. refl) (links _ _ _ _ (at-start .pre .0)) (links _ _ _ _ (at-start .pre .1 .0)) _ _ _ _ _ (c .if1 .taken) (c .before .before .loop .inv .3 .crossed)
 
 row-at-requires : tie.Need-row-at-requires Inv-loop μ-loop
-row-at-requires c κs =
-    let at-start : tie.Start Inv-loop μ-loop = search in
-    omega (arith, at-start .pre .0 .few, c .before .loop-test .taken)
+row-at-requires c κs = let at-start : tie.Start Inv-loop μ-loop = search in omega (arith, at-start .pre .0 .few, c .before .loop-test .taken)
 
 row-at-requires-2 : tie.Need-row-at-requires-2 Inv-loop μ-loop
-row-at-requires-2 c κs =
-    let at-start : tie.Start Inv-loop μ-loop = search in
-    omega (arith, at-start .pre .1 .0 .few, c .before .if1 .left)
+row-at-requires-2 c κs = let at-start : tie.Start Inv-loop μ-loop = search in omega (arith, at-start .pre .1 .0 .few, c .before .if1 .left)
 
 share-requires : tie.Need-share-requires Inv-loop μ-loop
 share-requires c κs =

@@ -11,13 +11,6 @@ use Rattle.ids.proofs.Numbering.{links}
 use Rattle.ids.proofs.Sharing.{gap-ahead, differing-more}
 use Rattle.ids.proofs.differ.Statement.{statement}
 use Rattle.ids.proofs.differ.Tie as tie
-use Rattle.ids.proofs.differ.Reads as reads
-use Rattle.ids.proofs.differ.Lts as lts
-use Rattle.ids.proofs.gap_end.Reads as gap-end-reads
-use Rattle.ids.proofs.gap_start.Reads as gap-start-reads
-use Rattle.ids.proofs.keep.Reads as keep-reads
-use Rattle.ids.proofs.row_at.Reads as row-at-reads
-use Rattle.ids.proofs.share.Reads as share-reads
 
 abbrev Inv-loop : tie.InvT-loop
 Inv-loop clients starts ends n b-clients b-starts b-ends m to-clients₀ to-starts₀ to-ends₀ most i₀ j₀ k₀ to-clients to-starts to-ends i j k =
@@ -33,9 +26,7 @@ loop-holds c =
     (refl, refl, refl, record { place = 0; differed = differed-none _ _ _ _ _ _ (λ _. refl) (λ _. refl) (links _ _ _ _ (at-start .pre .0)) (links _ _ _ _ (at-start .pre .1 .0)) _ })
 
 row-at-requires : tie.Need-row-at-requires Inv-loop μ-loop
-row-at-requires c κs =
-    let at-start : tie.Start Inv-loop μ-loop = search in
-    omega (arith, at-start .pre .0 .few, c .loop-test .taken)
+row-at-requires c κs = let at-start : tie.Start Inv-loop μ-loop = search in omega (arith, at-start .pre .0 .few, c .loop-test .taken)
 
 abbrev start : tie.In-loop Inv-loop μ-loop → tie.Start Inv-loop μ-loop
 start c = search

@@ -1,12 +1,7 @@
-use native.Mathlib.Omega.{arith}
 use Rattle.ids.proofs.Answering.{kept-most, finishing}
 use borrow.Author.Needs.{needs}
 use Rattle.ids.proofs.finish.Statement.{statement}
 use Rattle.ids.proofs.finish.Tie as tie
-use Rattle.ids.proofs.finish.Reads as reads
-use Rattle.ids.proofs.finish.Lts as lts
-use Rattle.ids.proofs.pick_place.Reads as pick-place-reads
-use Rattle.ids.proofs.trim.Reads as trim-reads
 
 pick-place-requires : tie.Need-pick-place-requires
 pick-place-requires c κs = search needs

@@ -1,24 +1,15 @@
 -- An empty range is captured; with any other the result is the merge with a table of one row. Assumes nothing.
 use native.Mathlib.Omega.{arith}
 use mathlib.Core.Path.{refl}
-use mathlib.Core.List.{[], _∷_}
 use Rattle.tables.proofs.Sets.{union-means}
 use Rattle.ids.specs.Rows.{row}
-use Rattle.ids.specs.Tables.{held, three}
+use Rattle.ids.specs.Tables.{three}
 use Rattle.ids.proofs.Answering.{walking, made-of}
 use Rattle.ids.proofs.Inserting.{captured-inserted, merged-inserted}
 use Rattle.ids.proofs.Splicing.{one-narrow, both-one}
 use borrow.Author.Needs.{needs}
 use Rattle.ids.proofs.insert_range.Statement.{statement}
 use Rattle.ids.proofs.insert_range.Tie as tie
-use Rattle.ids.proofs.insert_range.Reads as reads
-use Rattle.ids.proofs.insert_range.Lts as lts
-use Rattle.ids.proofs.capture.Reads as capture-reads
-use Rattle.ids.proofs.finish.Reads as finish-reads
-use Rattle.ids.proofs.most_rows.Reads as most-rows-reads
-use Rattle.ids.proofs.pick_place.Reads as pick-place-reads
-use Rattle.ids.proofs.put_in.Reads as put-in-reads
-use Rattle.ids.proofs.well_formed.Reads as well-formed-reads
 
 capture-requires : tie.Need-capture-requires
 capture-requires c κs = search needs

@@ -3,12 +3,6 @@ use Rattle.ids.proofs.Placing.{joins}
 use borrow.Author.Needs.{needs}
 use Rattle.ids.proofs.join.Statement.{statement}
 use Rattle.ids.proofs.join.Tie as tie
-use Rattle.ids.proofs.join.Reads as reads
-use Rattle.ids.proofs.join.Lts as lts
-use Rattle.ids.proofs.counted.Reads as counted-reads
-use Rattle.ids.proofs.further.Reads as further-reads
-use Rattle.ids.proofs.store.Reads as store-reads
-use Rattle.ids.proofs.store_wide.Reads as store-wide-reads
 
 store-wide-requires : tie.Need-store-wide-requires
 store-wide-requires c κs = search needs

@@ -6,13 +6,6 @@ use Rattle.ids.proofs.Splicing.{plain, laid-full, laid-done}
 use borrow.Author.Needs.{needs}
 use Rattle.ids.proofs.put_in.Statement.{statement}
 use Rattle.ids.proofs.put_in.Tie as tie
-use Rattle.ids.proofs.put_in.Reads as reads
-use Rattle.ids.proofs.put_in.Lts as lts
-use Rattle.ids.proofs.count_below.Reads as count-below-reads
-use Rattle.ids.proofs.lead.Reads as lead-reads
-use Rattle.ids.proofs.splice.Reads as splice-reads
-use Rattle.ids.proofs.splice_wide.Reads as splice-wide-reads
-use Rattle.ids.proofs.trail.Reads as trail-reads
 
 count-below-requires : tie.Need-count-below-requires
 count-below-requires c κs =
@@ -32,9 +25,7 @@ count-below-requires-2 c κs =
     )
 
 lead-requires : tie.Need-lead-requires
-lead-requires c κs =
-    let at-start : tie.Start = search in
-    (omega (arith, at-start .pre .0 .few), omega (arith, at-start .pre .0 .few))
+lead-requires c κs = let at-start : tie.Start = search in (omega (arith, at-start .pre .0 .few), omega (arith, at-start .pre .0 .few))
 
 trail-requires : tie.Need-trail-requires
 trail-requires c κs =

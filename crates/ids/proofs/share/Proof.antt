@@ -4,10 +4,6 @@ use Rattle.ids.proofs.Sharing.{shares-same}
 use borrow.Author.Needs.{needs}
 use Rattle.ids.proofs.share.Statement.{statement}
 use Rattle.ids.proofs.share.Tie as tie
-use Rattle.ids.proofs.share.Reads as reads
-use Rattle.ids.proofs.share.Lts as lts
-use Rattle.ids.proofs.share_far.Reads as share-far-reads
-use Rattle.ids.proofs.share_near.Reads as share-near-reads
 
 share-near-requires : tie.Need-share-near-requires
 share-near-requires c κs = search needs

@@ -1,13 +1,7 @@
-use native.Mathlib.Omega.{arith}
 use Rattle.ids.proofs.Sharing.{shares-far}
 use borrow.Author.Needs.{needs}
 use Rattle.ids.proofs.share_far.Statement.{statement}
 use Rattle.ids.proofs.share_far.Tie as tie
-use Rattle.ids.proofs.share_far.Reads as reads
-use Rattle.ids.proofs.share_far.Lts as lts
-use Rattle.ids.proofs.pick.Reads as pick-reads
-use Rattle.ids.proofs.pick_place.Reads as pick-place-reads
-use Rattle.ids.proofs.precedes.Reads as precedes-reads
 
 precedes-requires : tie.Need-precedes-requires
 precedes-requires c κs = search needs

@@ -6,9 +6,6 @@ use Rattle.ids.proofs.Splicing.{spliced}
 use borrow.Author.Needs.{needs}
 use Rattle.ids.proofs.splice.Statement.{statement}
 use Rattle.ids.proofs.splice.Tie as tie
-use Rattle.ids.proofs.splice.Reads as reads
-use Rattle.ids.proofs.splice.Lts as lts
-use Rattle.ids.proofs.shift.Reads as shift-reads
 
 shift-requires : tie.Need-shift-requires
 shift-requires c κs = search needs

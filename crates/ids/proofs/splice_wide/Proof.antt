@@ -6,9 +6,6 @@ use Rattle.ids.proofs.Splicing.{spliced}
 use borrow.Author.Needs.{needs}
 use Rattle.ids.proofs.splice_wide.Statement.{statement}
 use Rattle.ids.proofs.splice_wide.Tie as tie
-use Rattle.ids.proofs.splice_wide.Reads as reads
-use Rattle.ids.proofs.splice_wide.Lts as lts
-use Rattle.ids.proofs.shift_wide.Reads as shift-wide-reads
 
 shift-wide-requires : tie.Need-shift-wide-requires
 shift-wide-requires c κs = search needs

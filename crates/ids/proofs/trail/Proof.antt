@@ -2,9 +2,6 @@ use Rattle.ids.proofs.Splicing.{trails-past, trails-not}
 use borrow.Author.Needs.{needs}
 use Rattle.ids.proofs.trail.Statement.{statement}
 use Rattle.ids.proofs.trail.Tie as tie
-use Rattle.ids.proofs.trail.Reads as reads
-use Rattle.ids.proofs.trail.Lts as lts
-use Rattle.ids.proofs.precedes.Reads as precedes-reads
 
 returns : tie.Need-returns
 returns c = search needs

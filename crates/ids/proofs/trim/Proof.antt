@@ -5,10 +5,6 @@ use Rattle.ids.proofs.Numbering.{fit, filled-columns}
 use borrow.Author.Needs.{needs}
 use Rattle.ids.proofs.trim.Statement.{statement}
 use Rattle.ids.proofs.trim.Tie as tie
-use Rattle.ids.proofs.trim.Reads as reads
-use Rattle.ids.proofs.trim.Lts as lts
-use Rattle.tables.proofs.zero.Reads as zero-reads
-use Rattle.tables.proofs.zero_wide.Reads as zero-wide-reads
 
 mul-zero-wide : tie.Need-mul-zero-wide
 mul-zero-wide c = search needs

@@ -7,10 +7,6 @@ use Rattle.ids.specs.Inner.{Merging}
 use Rattle.ids.proofs.Merging.{merging-none, merging-more, later, moved, merging-all}
 use Rattle.ids.proofs.unite.Statement.{statement}
 use Rattle.ids.proofs.unite.Tie as tie
-use Rattle.ids.proofs.unite.Reads as reads
-use Rattle.ids.proofs.unite.Lts as lts
-use Rattle.ids.proofs.join.Reads as join-reads
-use Rattle.ids.proofs.next.Reads as next-reads
 
 abbrev Inv-loop : tie.InvT-loop
 Inv-loop clients starts ends n b-clients b-starts b-ends m to-clients₀ to-starts₀ to-ends₀ most i₀ j₀ k₀ c₀ e₀ to-clients to-starts to-ends i j k c e =
@@ -29,9 +25,7 @@ add-loop c =
     omega (arith, at-start .pre .0 .few, at-start .pre .1 .0 .few, c .loop .inv .3 .united .one .within, c .loop .inv .3 .united .two .within)
 
 add-loop-2 : tie.Need-add-loop-2 Inv-loop μ-loop
-add-loop-2 c =
-    let at-start : tie.Start Inv-loop μ-loop = search in
-    omega (arith, at-start .pre .0 .few, at-start .pre .1 .0 .few)
+add-loop-2 c = let at-start : tie.Start Inv-loop μ-loop = search in omega (arith, at-start .pre .0 .few, at-start .pre .1 .0 .few)
 
 next-requires : tie.Need-next-requires Inv-loop μ-loop
 next-requires c κs =

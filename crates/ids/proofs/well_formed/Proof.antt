@@ -4,11 +4,6 @@ use Rattle.ids.proofs.Numbering.{checked, unchecked}
 use borrow.Author.Needs.{needs}
 use Rattle.ids.proofs.well_formed.Statement.{statement}
 use Rattle.ids.proofs.well_formed.Tie as tie
-use Rattle.ids.proofs.well_formed.Reads as reads
-use Rattle.ids.proofs.well_formed.Lts as lts
-use Rattle.ids.proofs.apart.Reads as apart-reads
-use Rattle.ids.proofs.most_rows.Reads as most-rows-reads
-use Rattle.ids.proofs.none_empty.Reads as none-empty-reads
 
 most-rows-requires : tie.Need-most-rows-requires
 most-rows-requires c κs = search needs
