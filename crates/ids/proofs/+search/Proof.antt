@@ -74,9 +74,7 @@ search-shared-slice-read-c : (t : ℕ) → search-lts.Need-shared-slice-read-c (
   search-below t,
   search′.Post,
 ) (search-at t) search′.Post
-search-shared-slice-read-c t c =
-    let s : Start t = search in
-    omega (arith, s .pre .1 .0 .few)
+search-shared-slice-read-c t c = let s : Start t = search in omega (arith, s .pre .1 .0 .few)
 
 search-mul-precedes : (t : ℕ) → search-lts.Need-mul-precedes (
   precedes-reads.Asked,
@@ -92,9 +90,7 @@ search-shared-slice-read-precedes : (t : ℕ) → search-lts.Need-shared-slice-r
   search-below t,
   search′.Post,
 ) (search-at t) search′.Post
-search-shared-slice-read-precedes t c =
-    let s : Start t = search in
-    omega (arith, s .pre .1 .0 .few)
+search-shared-slice-read-precedes t c = let s : Start t = search in omega (arith, s .pre .1 .0 .few)
 
 search-precedes-requires : (t : ℕ) → search-lts.Need-precedes-requires (
   precedes-reads.Asked,
@@ -110,9 +106,7 @@ search-search-requires : (t : ℕ) → search-lts.Need-search-requires (
   search-below t,
   search′.Post,
 ) (search-at t) search′.Post
-search-search-requires t c κs =
-    let s : Start t = search in
-    (omega (arith, s .pre .0), (s .pre .1 .0, omega arith))
+search-search-requires t c κs = let s : Start t = search in (omega (arith, s .pre .0), (s .pre .1 .0, omega arith))
 
 search-returns-2 : (t : ℕ) → search-lts.Need-returns-2 (
   precedes-reads.Asked,
@@ -139,9 +133,7 @@ search-shared-slice-read-precedes-2 : (t : ℕ) → search-lts.Need-shared-slice
   search-below t,
   search′.Post,
 ) (search-at t) search′.Post
-search-shared-slice-read-precedes-2 t c =
-    let s : Start t = search in
-    omega (arith, s .pre .1 .0 .few)
+search-shared-slice-read-precedes-2 t c = let s : Start t = search in omega (arith, s .pre .1 .0 .few)
 
 search-precedes-requires-2 : (t : ℕ) → search-lts.Need-precedes-requires-2 (
   precedes-reads.Asked,
@@ -177,9 +169,7 @@ search-search-requires-2 : (t : ℕ) → search-lts.Need-search-requires-2 (
   search-below t,
   search′.Post,
 ) (search-at t) search′.Post
-search-search-requires-2 t c κs =
-    let s : Start t = search in
-    (omega (arith, s .pre .0), (s .pre .1 .0, omega arith))
+search-search-requires-2 t c κs = let s : Start t = search in (omega (arith, s .pre .0), (s .pre .1 .0, omega arith))
 
 search-returns-4 : (t : ℕ) → search-lts.Need-returns-4 (
   precedes-reads.Asked,

@@ -32,25 +32,19 @@ mul-fresh : tie.Need-mul-fresh Inv-loop μ-loop
 mul-fresh c = search needs
 
 shared-slice-read-fresh : tie.Need-shared-slice-read-fresh Inv-loop μ-loop
-shared-slice-read-fresh c =
-    let at-start : tie.Start Inv-loop μ-loop = search in
-    omega (arith, at-start .pre .few)
+shared-slice-read-fresh c = let at-start : tie.Start Inv-loop μ-loop = search in omega (arith, at-start .pre .few)
 
 mul-fresh-2 : tie.Need-mul-fresh-2 Inv-loop μ-loop
 mul-fresh-2 c = search needs
 
 shared-slice-read-fresh-2 : tie.Need-shared-slice-read-fresh-2 Inv-loop μ-loop
-shared-slice-read-fresh-2 c =
-    let at-start : tie.Start Inv-loop μ-loop = search in
-    omega (arith, at-start .pre .few)
+shared-slice-read-fresh-2 c = let at-start : tie.Start Inv-loop μ-loop = search in omega (arith, at-start .pre .few)
 
 fresh-requires : tie.Need-fresh-requires Inv-loop μ-loop
 fresh-requires c κs = search needs
 
 add-many : tie.Need-add-many Inv-loop μ-loop
-add-many c =
-    let at-start : tie.Start Inv-loop μ-loop = search in
-    let f = fresh-most (c .fresh .ensures) in omega (arith, at-start .pre .few)
+add-many c = let at-start : tie.Start Inv-loop μ-loop = search in let f = fresh-most (c .fresh .ensures) in omega (arith, at-start .pre .few)
 
 loop-less : tie.Need-loop-less Inv-loop μ-loop
 loop-less c = search needs

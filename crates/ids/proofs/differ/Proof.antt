@@ -26,9 +26,7 @@ loop-holds c =
     (refl, refl, refl, record { place = 0; differed = differed-none _ _ _ _ _ _ (λ _. refl) (λ _. refl) (links _ _ _ _ (at-start .pre .0)) (links _ _ _ _ (at-start .pre .1 .0)) _ })
 
 row-at-requires : tie.Need-row-at-requires Inv-loop μ-loop
-row-at-requires c κs =
-    let at-start : tie.Start Inv-loop μ-loop = search in
-    omega (arith, at-start .pre .0 .few, c .loop-test .taken)
+row-at-requires c κs = let at-start : tie.Start Inv-loop μ-loop = search in omega (arith, at-start .pre .0 .few, c .loop-test .taken)
 
 abbrev start : tie.In-loop Inv-loop μ-loop → tie.Start Inv-loop μ-loop
 start c = search

@@ -1,4 +1,3 @@
-use native.Mathlib.Omega.{arith}
 use Rattle.ids.proofs.Answering.{kept-most, finishing}
 use borrow.Author.Needs.{needs}
 use Rattle.ids.proofs.finish.Statement.{statement}

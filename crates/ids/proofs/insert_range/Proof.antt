@@ -1,10 +1,9 @@
 -- An empty range is captured; with any other the result is the merge with a table of one row. Assumes nothing.
 use native.Mathlib.Omega.{arith}
 use mathlib.Core.Path.{refl}
-use mathlib.Core.List.{[], _∷_}
 use Rattle.tables.proofs.Sets.{union-means}
 use Rattle.ids.specs.Rows.{row}
-use Rattle.ids.specs.Tables.{held, three}
+use Rattle.ids.specs.Tables.{three}
 use Rattle.ids.proofs.Answering.{walking, made-of}
 use Rattle.ids.proofs.Inserting.{captured-inserted, merged-inserted}
 use Rattle.ids.proofs.Splicing.{one-narrow, both-one}

@@ -25,9 +25,7 @@ count-below-requires-2 c κs =
     )
 
 lead-requires : tie.Need-lead-requires
-lead-requires c κs =
-    let at-start : tie.Start = search in
-    (omega (arith, at-start .pre .0 .few), omega (arith, at-start .pre .0 .few))
+lead-requires c κs = let at-start : tie.Start = search in (omega (arith, at-start .pre .0 .few), omega (arith, at-start .pre .0 .few))
 
 trail-requires : tie.Need-trail-requires
 trail-requires c κs =

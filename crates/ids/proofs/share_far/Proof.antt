@@ -1,4 +1,3 @@
-use native.Mathlib.Omega.{arith}
 use Rattle.ids.proofs.Sharing.{shares-far}
 use borrow.Author.Needs.{needs}
 use Rattle.ids.proofs.share_far.Statement.{statement}

@@ -25,9 +25,7 @@ add-loop c =
     omega (arith, at-start .pre .0 .few, at-start .pre .1 .0 .few, c .loop .inv .3 .united .one .within, c .loop .inv .3 .united .two .within)
 
 add-loop-2 : tie.Need-add-loop-2 Inv-loop μ-loop
-add-loop-2 c =
-    let at-start : tie.Start Inv-loop μ-loop = search in
-    omega (arith, at-start .pre .0 .few, at-start .pre .1 .0 .few)
+add-loop-2 c = let at-start : tie.Start Inv-loop μ-loop = search in omega (arith, at-start .pre .0 .few, at-start .pre .1 .0 .few)
 
 next-requires : tie.Need-next-requires Inv-loop μ-loop
 next-requires c κs =

@@ -1,6 +1,4 @@
 -- `state_vector::close` meets its contract. Assumes nothing.
-use native.Mathlib.Omega.{arith}
-use mathlib.Core.Path.{refl}
 use Rattle.state_vector.specs.Inner.{fits, over}
 use borrow.Author.Needs.{needs}
 use Rattle.state_vector.proofs.close.Statement.{statement}

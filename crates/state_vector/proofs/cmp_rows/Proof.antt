@@ -20,15 +20,9 @@ cmp-rows-spec =
     Inv-loop
     μ-loop
     (λ c κs. search needs)
-    (λ c κs.
-    let at-start : tie.Start Inv-loop μ-loop = search in
-    (omega (arith, at-start .pre .0 .few), omega (arith, at-start .pre .1 .few)))
-    (λ c κs.
-    let at-start : tie.Start Inv-loop μ-loop = search in
-    (omega (arith, at-start .pre .0 .few), omega (arith, at-start .pre .1 .few)))
-    (λ c κs.
-    let at-start : tie.Start Inv-loop μ-loop = search in
-    (omega (arith, at-start .pre .1 .few), omega (arith, at-start .pre .0 .few)))
+    (λ c κs. let at-start : tie.Start Inv-loop μ-loop = search in (omega (arith, at-start .pre .0 .few), omega (arith, at-start .pre .1 .few)))
+    (λ c κs. let at-start : tie.Start Inv-loop μ-loop = search in (omega (arith, at-start .pre .0 .few), omega (arith, at-start .pre .1 .few)))
+    (λ c κs. let at-start : tie.Start Inv-loop μ-loop = search in (omega (arith, at-start .pre .1 .few), omega (arith, at-start .pre .0 .few)))
     (λ c.
     let at-start : tie.Start Inv-loop μ-loop = search in
     let p = at-start .pre in
@@ -39,28 +33,18 @@ cmp-rows-spec =
     let at-loop : tie.At-loop Inv-loop μ-loop = search in
     rw (c .verdict .ensures) (comparing-left (at-loop .loop .inv) (c .before .before .if1 .taken) (c .before .any .ensures)))
     (λ c. search needs)
-    (λ c.
-    let at-loop : tie.At-loop Inv-loop μ-loop = search in
-    omega (arith, at-loop .loop .inv .ta .few))
+    (λ c. let at-loop : tie.At-loop Inv-loop μ-loop = search in omega (arith, at-loop .loop .inv .ta .few))
     (λ c. search needs)
-    (λ c.
-    let at-loop : tie.At-loop Inv-loop μ-loop = search in
-    omega (arith, at-loop .loop .inv .tb .few))
+    (λ c. let at-loop : tie.At-loop Inv-loop μ-loop = search in omega (arith, at-loop .loop .inv .tb .few))
     (λ c. search needs)
     (λ c. search needs)
     (λ c. search needs)
-    (λ c.
-    let at-loop : tie.At-loop Inv-loop μ-loop = search in
-    omega (arith, at-loop .loop .inv .tb .few))
+    (λ c. let at-loop : tie.At-loop Inv-loop μ-loop = search in omega (arith, at-loop .loop .inv .tb .few))
     (λ c κs. search needs)
     (λ c κs. search needs)
     (λ c κs. search needs)
-    (λ c κs.
-    let at-loop : tie.At-loop Inv-loop μ-loop = search in
-    omega (arith, at-loop .loop .inv .ta .few))
-    (λ c κs.
-    let at-loop : tie.At-loop Inv-loop μ-loop = search in
-    omega (arith, at-loop .loop .inv .tb .few))
+    (λ c κs. let at-loop : tie.At-loop Inv-loop μ-loop = search in omega (arith, at-loop .loop .inv .ta .few))
+    (λ c κs. let at-loop : tie.At-loop Inv-loop μ-loop = search in omega (arith, at-loop .loop .inv .tb .few))
     (λ c. search step-less)
     (λ c. search comparing-next)
     (λ c κs. (c .before .loop .inv .lj, omega (arith, c .before .loop .inv .tb .few)))

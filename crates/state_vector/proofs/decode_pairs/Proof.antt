@@ -26,12 +26,8 @@ decode-pairs-spec =
     (λ c. search needs)
     (λ c. search needs)
     (λ c κs. search needs)
-    (λ c.
-    let at-loop : tie.At-loop Inv-loop μ-loop = search in
-    at-loop .loop .inv .clients)
-    (λ c.
-    let at-loop : tie.At-loop Inv-loop μ-loop = search in
-    at-loop .loop .inv .clocks)
+    (λ c. let at-loop : tie.At-loop Inv-loop μ-loop = search in at-loop .loop .inv .clients)
+    (λ c. let at-loop : tie.At-loop Inv-loop μ-loop = search in at-loop .loop .inv .clocks)
     (λ c.
     let at-read-u64 : tie.After-read-u64 Inv-loop μ-loop = search in
     let at-start : tie.Start Inv-loop μ-loop = search in
@@ -40,12 +36,8 @@ decode-pairs-spec =
     (λ c. search needs)
     (λ c. search needs)
     (λ c κs. search needs)
-    (λ c.
-    let at-loop : tie.At-loop Inv-loop μ-loop = search in
-    at-loop .loop .inv .clients)
-    (λ c.
-    let at-loop : tie.At-loop Inv-loop μ-loop = search in
-    at-loop .loop .inv .clocks)
+    (λ c. let at-loop : tie.At-loop Inv-loop μ-loop = search in at-loop .loop .inv .clients)
+    (λ c. let at-loop : tie.At-loop Inv-loop μ-loop = search in at-loop .loop .inv .clocks)
     (λ c.
     let at-read-u32 : tie.After-read-u32 Inv-loop μ-loop = search in
     let at-read-u64 : tie.After-read-u64 Inv-loop μ-loop = search in
@@ -83,6 +75,4 @@ decode-pairs-spec =
     pairing-more (at-start .pre) (at-in-loop .before .loop .inv) _ (at-put-row .put-row .ensures) (omega arith) (at-put-row .put-row .kept .0) (at-put-row .put-row .kept .1 .0) (pair-more _ _ _ _ _ (at-in-loop .loop-test .taken) (at-first .first .given .1) (at-first .before .before .read-u64 .ensures) (at-second .second .given .1) (at-second .before .before .read-u32 .ensures)))
     (λ c. c .before .loop .inv .clients)
     (λ c. c .before .loop .inv .clocks)
-    (λ c.
-    let at-start : tie.Start Inv-loop μ-loop = search in
-    pairing-all (at-start .pre) (c .before .loop .inv) (omega arith)))
+    (λ c. let at-start : tie.Start Inv-loop μ-loop = search in pairing-all (at-start .pre) (c .before .loop .inv) (omega arith)))

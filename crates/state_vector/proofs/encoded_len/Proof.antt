@@ -21,18 +21,12 @@ encoded-len-spec =
     Inv-loop
     μ-loop
     (λ c κs. search needs)
-    (λ c.
-    let at-start : tie.Start Inv-loop μ-loop = search in
-    summing-none _ _ _ (omega (arith, at-start .pre .few)) (c .length-u64 .ensures))
+    (λ c. let at-start : tie.Start Inv-loop μ-loop = search in summing-none _ _ _ (omega (arith, at-start .pre .few)) (c .length-u64 .ensures))
     (λ c. search needs)
-    (λ c.
-    let at-start : tie.Start Inv-loop μ-loop = search in
-    omega (arith, at-start .pre .few))
+    (λ c. let at-start : tie.Start Inv-loop μ-loop = search in omega (arith, at-start .pre .few))
     (λ c κs. search needs)
     (λ c. search needs)
-    (λ c.
-    let at-start : tie.Start Inv-loop μ-loop = search in
-    omega (arith, at-start .pre .few))
+    (λ c. let at-start : tie.Start Inv-loop μ-loop = search in omega (arith, at-start .pre .few))
     (λ c κs. search needs)
     (λ c.
     let at-known3 : tie.After-shared-slice-known3 Inv-loop μ-loop = search in
@@ -49,6 +43,4 @@ encoded-len-spec =
     (λ c.
     let at-known3 : tie.After-shared-slice-known3 Inv-loop μ-loop = search in
     summing-more (at-known3 .before .before .loop .inv) (at-known3 .before .loop-test .taken) (c .before .before .length-u642 .ensures) (c .length-u32 .ensures) (omega (arith, at-known3 .shared-slice-known3 .given (at-known3 .before .before .loop .i))) (omega (arith, c .before .shared-slice-known4 .given (at-known3 .before .before .loop .i))))
-    (λ c.
-    let at-start : tie.Start Inv-loop μ-loop = search in
-    summing-all (at-start .pre) (c .before .loop .inv) (omega arith)))
+    (λ c. let at-start : tie.Start Inv-loop μ-loop = search in summing-all (at-start .pre) (c .before .loop .inv) (omega arith)))

@@ -12,9 +12,7 @@ merge-front-spec =
     tie.close
     (tie.spec
     (λ c κs. search needs)
-    (λ c κs.
-    let at-start : tie.Start = search in
-    (omega (arith, at-start .pre .0 .few), omega (arith, at-start .pre .1 .0 .few)))
+    (λ c κs. let at-start : tie.Start = search in (omega (arith, at-start .pre .0 .few), omega (arith, at-start .pre .1 .0 .few)))
     (λ c κs. search needs)
     (λ c κs.
     let at-lesser : tie.After-lesser = search in

@@ -20,9 +20,7 @@ merge-rows-spec =
     (tie.spec
     Inv-loop
     μ-loop
-    (λ c κs.
-    let at-start : tie.Start Inv-loop μ-loop = search in
-    (at-start .pre .0, (at-start .pre .1 .0, at-start .pre .1 .1)))
+    (λ c κs. let at-start : tie.Start Inv-loop μ-loop = search in (at-start .pre .0, (at-start .pre .1 .0, at-start .pre .1 .1)))
     (λ c.
     let at-merge-front : tie.After-merge-front Inv-loop μ-loop = search in
     let at-start : tie.Start Inv-loop μ-loop = search in
@@ -38,35 +36,22 @@ merge-rows-spec =
     let at-then1 : tie.Then1 Inv-loop μ-loop = search in
     united-left (at-then1 .before .before .loop .inv) (at-then1 .if1 .taken) (at-rest .rest .ensures))
     (λ c. search needs)
-    (λ c.
-    let at-loop : tie.At-loop Inv-loop μ-loop = search in
-    omega (arith, at-loop .loop .inv .ta .few))
+    (λ c. let at-loop : tie.At-loop Inv-loop μ-loop = search in omega (arith, at-loop .loop .inv .ta .few))
     (λ c. search needs)
-    (λ c.
-    let at-loop : tie.At-loop Inv-loop μ-loop = search in
-    omega (arith, at-loop .loop .inv .tb .few))
+    (λ c. let at-loop : tie.At-loop Inv-loop μ-loop = search in omega (arith, at-loop .loop .inv .tb .few))
     (λ c κs. search needs)
     (λ c. search needs)
-    (λ c.
-    let at-loop : tie.At-loop Inv-loop μ-loop = search in
-    omega (arith, at-loop .loop .inv .ta .few))
+    (λ c. let at-loop : tie.At-loop Inv-loop μ-loop = search in omega (arith, at-loop .loop .inv .ta .few))
     (λ c κs. search needs)
     (λ c. search needs)
-    (λ c.
-    let at-loop : tie.At-loop Inv-loop μ-loop = search in
-    omega (arith, at-loop .loop .inv .tb .few))
+    (λ c. let at-loop : tie.At-loop Inv-loop μ-loop = search in omega (arith, at-loop .loop .inv .tb .few))
     (λ c κs. search needs)
     (λ c κs. search needs)
-    (λ c κs.
-    let at-loop : tie.At-loop Inv-loop μ-loop = search in
-    let s = at-loop .loop .inv in
-    omega (arith, s .fit, s .clients, s .clocks))
+    (λ c κs. let at-loop : tie.At-loop Inv-loop μ-loop = search in let s = at-loop .loop .inv in omega (arith, s .fit, s .clients, s .clocks))
     (λ c κs.
     let at-else1 : tie.Else1 Inv-loop μ-loop = search in
     omega (arith, at-else1 .before .before .loop .inv .ta .few, at-else1 .before .loop-test .taken))
-    (λ c κs.
-    let at-else1 : tie.Else1 Inv-loop μ-loop = search in
-    omega (arith, at-else1 .before .before .loop .inv .tb .few, at-else1 .if1 .left))
+    (λ c κs. let at-else1 : tie.Else1 Inv-loop μ-loop = search in omega (arith, at-else1 .before .before .loop .inv .tb .few, at-else1 .if1 .left))
     (λ c.
     let at-loop : tie.At-loop Inv-loop μ-loop = search in
     let s = at-loop .loop .inv in

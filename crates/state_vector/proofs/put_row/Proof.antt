@@ -10,14 +10,10 @@ pub put-row-spec : {M : Type 1} → statement M
 put-row-spec =
     tie.close
     (tie.spec
-    (λ c κs.
-    let at-start : tie.Start = search in
-    (omega (arith, at-start .pre .1 .0, at-start .pre .1 .1), table-climbs (at-start .pre .0)))
+    (λ c κs. let at-start : tie.Start = search in (omega (arith, at-start .pre .1 .0, at-start .pre .1 .1), table-climbs (at-start .pre .0)))
     (λ c κs. search needs)
     (λ c. search needs)
-    (λ c.
-    let at-start : tie.Start = search in
-    omega (arith, c .before .stands .ensures .right (c .if1 .taken) .within, at-start .pre .0 .few))
+    (λ c. let at-start : tie.Start = search in omega (arith, c .before .stands .ensures .right (c .if1 .taken) .within, at-start .pre .0 .few))
     (λ c. search needs)
     (λ c. search needs)
     (λ c.

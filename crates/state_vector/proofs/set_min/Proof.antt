@@ -22,7 +22,4 @@ set-min-spec =
     (λ c κs. search formed)
     (λ c. search needs)
     (λ c. search needs)
-    (λ c.
-    let e : tie.After-set = search in
-    let l : tie.After-smaller-at = search in
-    rw (l .smaller-at .ensures) at (e .set .ensures)))
+    (λ c. let e : tie.After-set = search in let l : tie.After-smaller-at = search in rw (l .smaller-at .ensures) at (e .set .ensures)))

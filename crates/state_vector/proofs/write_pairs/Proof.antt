@@ -23,13 +23,9 @@ write-pairs-spec =
     μ-loop
     (λ c. writing-none _ _ _ _ (omega arith))
     (λ c. search needs)
-    (λ c.
-    let at-start : tie.Start Inv-loop μ-loop = search in
-    omega (arith, at-start .pre .0 .few))
+    (λ c. let at-start : tie.Start Inv-loop μ-loop = search in omega (arith, at-start .pre .0 .few))
     (λ c. search needs)
-    (λ c.
-    let at-start : tie.Start Inv-loop μ-loop = search in
-    omega (arith, at-start .pre .0 .few))
+    (λ c. let at-start : tie.Start Inv-loop μ-loop = search in omega (arith, at-start .pre .0 .few))
     (λ c κs. search needs)
     (λ c κs. search client-fits)
     (λ c κs. search clock-fits)

@@ -8,9 +8,7 @@ pub write-rows-spec : {M : Type 1} → statement M
 write-rows-spec =
     tie.close
     (tie.spec
-    (λ c κs.
-    let at-start : tie.Start = search in
-    count-fits _ (at-start .args .buf .now) (at-start .pre .0) (at-start .pre .1))
+    (λ c κs. let at-start : tie.Start = search in count-fits _ (at-start .args .buf .now) (at-start .pre .0) (at-start .pre .1))
     (λ c κs.
     let at-write-number : tie.After-write-number = search in
     let at-start : tie.Start = search in
