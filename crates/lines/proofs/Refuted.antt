@@ -7,7 +7,7 @@ use Rattle.lines.specs.Put.{Put}
 use Rattle.lines.specs.Line.{isDigit, steps, start, added, ended, after, numbers}
 use Rattle.lines.specs.Text.{decimalIn, decimal, gap, textFrom, text}
 use Rattle.lines.proofs.Putting.{no-room}
-use Rattle.lines.proofs.Determined.{put-determined}
+use Rattle.lines.proofs.Determined.{put-one}
 
 -- "m 10 7+2*3" says 10, 7, 9, 11: no step is lost, and the step is no number of the line
 pub steps-said : numbers start (109 ∷ 32 ∷ 49 ∷ 48 ∷ 32 ∷ 55 ∷ 43 ∷ 50 ∷ 42 ∷ 51 ∷ 10 ∷ []) ≡ 10 ∷ 7 ∷ 9 ∷ 11 ∷ []
@@ -21,4 +21,4 @@ text-said = refl
 
 -- where there is no room nothing changes, and the place stays
 pub no-room-kept : {m : List ℕ} {k : ℕ} {xs : List ℕ} (r : ℕ) (a : List ℕ) → length m ≤ k → Put m k xs a r → (r ≡ k) × (a ≡ m)
-no-room-kept {m} {k} {xs} r a h p = put-determined r k a m p (no-room m k xs h)
+no-room-kept {m} {k} {xs} r a h p = put-one r k a m p (no-room m k xs h)
