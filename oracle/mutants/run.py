@@ -48,10 +48,9 @@ def over_pointers(text):
     return text + f'pub mod raw {{ use super::*;\n{raw}}}\n'
 
 def build(out, edit):
-    crates = [l.split(':')[0].strip() for l in open(root + '/crates.txt') if l.strip() and not l.startswith('#')]
     deps = {l.split(':')[0].strip(): l.split(':')[1].split() for l in open(root + '/crates.txt') if l.strip() and not l.startswith('#')}
     whole = '#![allow(warnings)]\n'
-    for c in crates:
+    for c in (c for c in deps if c in deps['ffi'] + ['ffi']):
         for f in sorted(glob.glob(f'{root}/crates/{c}/src/*.rt')):
             if not f.endswith('lib.rt'): continue
             text = open(f, encoding='utf-8').read()
