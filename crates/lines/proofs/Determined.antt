@@ -21,6 +21,7 @@ use Rattle.lines.proofs.line.Reads as line
 use Rattle.lines.proofs.number.Reads as number
 use Rattle.lines.proofs.clock.Reads as clock
 use Rattle.lines.proofs.within.Reads as within
+use Rattle.lines.proofs.size.Reads as size
 use Rattle.lines.proofs.rows.Reads as rows
 use Rattle.lines.proofs.left.Reads as left
 use Rattle.lines.proofs.left_wide.Reads as left-wide
@@ -83,6 +84,9 @@ clock-determined κ x r s y z p q = p ∙ sym q
 
 pub within-determined : Answers within.Learnt
 within-determined κ x r s y z p q = p ∙ sym q
+
+pub size-determined : Answers size.Learnt
+size-determined κ x r s y z p q = p ∙ sym q
 
 pub rows-determined : Answers rows.Learnt
 rows-determined κ x r s y z p q = p ∙ sym q

@@ -5,7 +5,6 @@ use tables::Told;
 use varint::Refusal;
 ghost use Prim.Native.Nat.{_+_, _-_, _*_, _%_, _^_, _≤_, min};
 ghost use mathlib.Core.Path.{_≡_};
-ghost use mathlib.Core.Bool.{Bool};
 ghost use mathlib.Core.List.{[], _∷_, _++_};
 ghost use lib.ListN.{length, getD, drop};
 ghost use Rattle.varint.specs.Answer.{noOf};
@@ -305,6 +304,13 @@ pub fn within(x: u64, most: usize) -> usize
     ensures { λ r. ⌜ r ≡ min x most ⌝ }
 {
     if x < most as u64 { x as usize } else { most }
+}
+
+// The length at a place of a line, at most `most`.
+pub fn size(args: &[u64], at: usize, most: usize) -> usize
+    ensures { λ r. ⌜ r ≡ min (getD (now (args .entry)) at 0) most ⌝ }
+{
+    within(number(args, at), most)
 }
 
 // The place behind a place, or itself at the end.

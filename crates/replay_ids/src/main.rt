@@ -28,20 +28,13 @@ struct Given {
     next: usize,
 }
 
-// The length at a place of the line, at most `most`.
-fn size(args: &[u64], at: usize, most: usize) -> usize
-    ensures { λ r. ⌜ r ≤ most ⌝ }
-{
-    lines::within(lines::number(args, at), most)
-}
-
 // The table that starts at `at`, at the front of three slices.
 fn table(args: &[u64], at: usize, c: &mut [u64], s: &mut [u32], e: &mut [u32]) -> Given
     ensures { λ r. ⌜ (r .x ≤ length (now (c .exit))) × (r .y ≤ length (now (s .exit))) × (r .z ≤ length (now (e .exit))) ⌝ }
 {
-    let x = size(args, std::num::wrapping_add_usize(at, 1), c.len());
-    let y = size(args, std::num::wrapping_add_usize(at, 2), s.len());
-    let z = size(args, std::num::wrapping_add_usize(at, 3), e.len());
+    let x = lines::size(args, std::num::wrapping_add_usize(at, 1), c.len());
+    let y = lines::size(args, std::num::wrapping_add_usize(at, 2), s.len());
+    let z = lines::size(args, std::num::wrapping_add_usize(at, 3), e.len());
     let first = std::num::wrapping_add_usize(at, 4);
     let second = std::num::wrapping_add_usize(first, x);
     let third = std::num::wrapping_add_usize(second, y);
@@ -147,9 +140,9 @@ fn make_out(
     e: &mut [u32],
     said: &mut [u64],
 ) -> usize {
-    let x = size(args, 0, c.len());
-    let y = size(args, 1, s.len());
-    let z = size(args, 2, e.len());
+    let x = lines::size(args, 0, c.len());
+    let y = lines::size(args, 1, s.len());
+    let z = lines::size(args, 2, e.len());
     let made = make(
         op,
         args,

@@ -35,10 +35,7 @@ struct Given {
 fn table(args: &[u64], at: usize, out: &mut [u32]) -> Given
     ensures { λ r. ⌜ r .len ≤ length (now (out .exit)) ⌝ }
 {
-    let len = lines::within(
-        lines::number(args, std::num::wrapping_add_usize(at, 1)),
-        out.len(),
-    );
+    let len = lines::size(args, std::num::wrapping_add_usize(at, 1), out.len());
     let from = std::num::wrapping_add_usize(at, 2);
     lines::clocks(args, from, &mut out[..len]);
     Given {
@@ -102,7 +99,7 @@ fn make_in(
     let q = table(args, p.next, b);
     let x = p.len;
     let y = q.len;
-    let room = lines::within(lines::number(args, 0), out.len());
+    let room = lines::size(args, 0, out.len());
     let made = make(
         op,
         args,

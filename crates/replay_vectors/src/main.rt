@@ -35,19 +35,12 @@ struct Given {
     next: usize,
 }
 
-// The length at a place of the line, at most `most`.
-fn size(args: &[u64], at: usize, most: usize) -> usize
-    ensures { λ r. ⌜ r ≤ most ⌝ }
-{
-    lines::within(lines::number(args, at), most)
-}
-
 // The vector that starts at `at`, at the front of two slices.
 fn vector(args: &[u64], at: usize, c: &mut [u64], k: &mut [u32]) -> Given
     ensures { λ r. ⌜ (r .x ≤ length (now (c .exit))) × (r .y ≤ length (now (k .exit))) ⌝ }
 {
-    let x = size(args, std::num::wrapping_add_usize(at, 1), c.len());
-    let y = size(args, std::num::wrapping_add_usize(at, 2), k.len());
+    let x = lines::size(args, std::num::wrapping_add_usize(at, 1), c.len());
+    let y = lines::size(args, std::num::wrapping_add_usize(at, 2), k.len());
     let first = std::num::wrapping_add_usize(at, 3);
     let second = std::num::wrapping_add_usize(first, x);
     lines::clients(args, first, &mut c[..x]);
@@ -129,8 +122,8 @@ fn make_out(
     k: &mut [u32],
     said: &mut [u64],
 ) -> usize {
-    let x = size(args, 0, c.len());
-    let y = size(args, 1, k.len());
+    let x = lines::size(args, 0, c.len());
+    let y = lines::size(args, 1, k.len());
     let made = make(op, args, ac, ak, n, bc, bk, m, &mut c[..x], &mut k[..y]);
     let at = lines::made(said, made);
     filled(said, at, lines::rows(made), &c[..x], &k[..y])
@@ -284,8 +277,8 @@ fn bytes_in(args: &[u64]) -> u64 {
 fn decode_in(args: &[u64], b: &mut [u8], c: &mut [u64], k: &mut [u32], said: &mut [u64]) -> usize {
     let n = lines::within(bytes_in(args), b.len());
     lines::bytes(args, 3, &mut b[..n]);
-    let x = size(args, 0, c.len());
-    let y = size(args, 1, k.len());
+    let x = lines::size(args, 0, c.len());
+    let y = lines::size(args, 1, k.len());
     let place = lines::number(args, 2) as usize;
     let r = state_vector::decode(&b[..n], place, &mut c[..x], &mut k[..y]);
     decoded(said, r, place, &c[..x], &k[..y])
@@ -311,7 +304,7 @@ fn wrote(said: &mut [u64], r: Wrote, place: usize) -> usize {
 
 fn encode_in(args: &[u64], c: &mut [u64], k: &mut [u32], b: &mut [u8], said: &mut [u64]) -> usize {
     let p = vector(args, 2, c, k);
-    let room = size(args, 0, b.len());
+    let room = lines::size(args, 0, b.len());
     let place = lines::number(args, 1) as usize;
     let r = state_vector::encode(&c[..p.x], &k[..p.y], p.count, &mut b[..room], place);
     let j = wrote(said, r, place);
