@@ -28,7 +28,7 @@ same-length : tie.Need-same-length
 same-length c = search needs
 
 returns : tie.Need-returns
-returns c = step-above (c .before .before .before .before .before .before .before .before .before .higher .ensures) (c .before .before .before .before .before .before .before .before .lower .ensures) (c .before .before .before .before .before .before .before .dropped .ensures) (c .before .before .before .before .before .before .dropped2 .ensures) (c .before .before .before .before .before .raised .ensures) (c .before .before .lay .ensures)
+returns c = search step-above
 
 pub down-spec : {M : Type 1} → statement M
 down-spec =

@@ -16,7 +16,7 @@ same-length : tie.Need-same-length
 same-length c = search needs
 
 returns : tie.Need-returns
-returns c = wrote-full (c .before .before .before .before .before .before .before .args .out .now) _ _ (omega arith) (c .before .before .zero .ensures)
+returns c = let s : tie.Start = search in wrote-full (s .args .out .now) _ _ (omega arith) (c .before .before .zero .ensures)
 
 mul-zero : tie.Need-mul-zero
 mul-zero c = search needs
@@ -40,7 +40,10 @@ same-length-2 : tie.Need-same-length-2
 same-length-2 c = search needs
 
 returns-2 : tie.Need-returns-2
-returns-2 c = wrote-done (c .before .before .before .before .before .before .before .args .out .now) _ _ (omega arith) (tail-zeroed (2 * c .before .before .before .before .before .before .before .args .k) (c .before .before .before .before .before .before .before .args .out .now) _ (omega arith) (c .before .before .zero2 .ensures))
+returns-2 c =
+    let z : tie.After-zero2 = search in
+    let s : tie.Start = search in
+    wrote-done (s .args .out .now) _ _ (omega arith) (tail-zeroed (2 * s .args .k) (s .args .out .now) _ (omega arith) (z .zero2 .ensures))
 
 pub finish-spec : {M : Type 1} → statement M
 finish-spec =

@@ -15,13 +15,13 @@ same-length : tie.Need-same-length
 same-length c = search needs
 
 returns : tie.Need-returns
-returns c = (stores-keeps (c .before .before .before .lay .ensures) _ (λ _. refl) (λ h. absurd (omega arith)), stores-above (c .before .before .before .lay .ensures))
+returns c = let l : tie.After-lay = search in (stores-keeps (l .lay .ensures) _ (λ _. refl) (λ h. absurd (omega arith)), stores-above (l .lay .ensures))
 
 same-length-2 : tie.Need-same-length-2
 same-length-2 c = search needs
 
 returns-2 : tie.Need-returns-2
-returns-2 c = (stores-keeps (c .before .before .before .lay .ensures) _ (λ h. absurd (omega arith)) (λ _. refl), stores-above (c .before .before .before .lay .ensures))
+returns-2 c = let l : tie.After-lay = search in (stores-keeps (l .lay .ensures) _ (λ h. absurd (omega arith)) (λ _. refl), stores-above (l .lay .ensures))
 
 pub keep-spec : {M : Type 1} → statement M
 keep-spec =

@@ -30,7 +30,10 @@ same-length : tie.Need-same-length
 same-length c = search needs
 
 returns : tie.Need-returns
-returns c = moved-to (omega arith) (moved-part (c .before .before .before .before .before .before .args .out .now) (c .before .before .move-up .last .0) (c .before .before .before .before .before .before .args .j) (omega arith) (c .before .before .move-up .kept .0) _ (omega arith) (omega arith) (c .before .before .move-up .ensures))
+returns c =
+    let m : tie.After-move-up = search in
+    let s : tie.Start = search in
+    moved-to (omega arith) (moved-part (s .args .out .now) (m .move-up .last .0) (s .args .j) (omega arith) (m .move-up .kept .0) _ (omega arith) (omega arith) (m .move-up .ensures))
 
 add-if2 : tie.Need-add-if2
 add-if2 c = search needs

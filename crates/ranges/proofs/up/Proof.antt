@@ -22,7 +22,7 @@ same-length : tie.Need-same-length
 same-length c = search needs
 
 returns : tie.Need-returns
-returns c = step-below (c .before .before .before .before .before .before .before .higher .ensures) (c .before .before .before .before .before .before .lower .ensures) (c .before .before .before .before .before .passed .ensures) (c .before .before .before .before .passed2 .ensures) (c .before .before .keep .ensures)
+returns c = search step-below
 
 pub up-spec : {M : Type 1} → statement M
 up-spec =
