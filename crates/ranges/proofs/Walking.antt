@@ -30,6 +30,18 @@ pub record Walk (a : List ℕ) (n : ℕ) (rb : ℕ → inner.Row) (m : ℕ) (Ask
   pub same : length out ≡ len
   pub met : Meeting (rowAt a) n i u rb m j v most (rowAt out) k t
 
+-- what a step from below asks, and one from above
+pub record Step (a : List ℕ) (Asks : ℕ → Type 0) (out : List ℕ) (i j k t : ℕ) : Type 0 where
+  pub row : 2 * i + 1 < length a
+  pub asks : Asks j
+  pub up : (2 * t ≤ length out) × ((i ≤ rowLimit) × ((j ≤ rowLimit) × (k ≤ 2 * rowLimit)))
+
+pub record StepAbove (a : List ℕ) (Asks : ℕ → Type 0) (u v : ℕ) : Type 0 where
+  pub left : 1 ≤ u
+  pub right : 1 ≤ v
+  pub row : 2 * (u - 1) + 1 < length a
+  pub asks : Asks (v - 1)
+
 -- of the gaps of b from lo on: what a look at one asks
 abbrev pub Gap : List ℕ → ℕ → ℕ → ℕ → Type 0
 Gap b m lo j = (2 * m ≤ length b) × (lo + j ≤ m)
@@ -43,6 +55,9 @@ module _ {a : List ℕ} {n : ℕ} {rb : ℕ → inner.Row} {m : ℕ} {Asks : ℕ
   walk-none p q f g r = record { one = p; two = q; few = f; asks = g; room = r; same = refl; met = meeting-none _ _ _ _ _ (ruled-plain p) q _ }
 
   module _ {len : ℕ} {out : List ℕ} {i j k u v t : ℕ} (w : Walk a n rb m Asks most len out i j k u v t) where
+    walk-to : {out′ : List ℕ} {i′ j′ k′ u′ v′ t′ : ℕ} → length out′ ≡ length out → Meeting (rowAt a) n i′ u′ rb m j′ v′ most (rowAt out′) k′ t′ → Walk a n rb m Asks most len out′ i′ j′ k′ u′ v′ t′
+    walk-to l d = record { one = w .one; two = w .two; few = w .few; asks = w .asks; room = w .room; same = l ∙ w .same; met = d }
+
     -- for a second loop
     pub walk-on : Walk a n rb m Asks most (length out) out i j k u v t
     walk-on = record { one = w .one; two = w .two; few = w .few; asks = w .asks; room = omega (arith, w .room, w .same); same = refl; met = w .met }
@@ -59,56 +74,34 @@ module _ {a : List ℕ} {n : ℕ} {rb : ℕ → inner.Row} {m : ℕ} {Asks : ℕ
     pub walk-halves : {on : Bool} → Says ((i < u) × (j < v)) on → on ≡ false → Halves most (rowAt out) k t (combined intersection (rowsOf a n) (span rb 0 m))
     walk-halves s e = meeting-halves _ _ _ _ _ (ruled-plain (w .one)) (w .two) (s .wrong e) (w .met)
 
-    -- ## While rows of both are left
+    step : (i < u) × (j < v) → Step a Asks out i j k t
+    step h =
+        record {
+          row = omega (arith, w .one .fits, w .met .one .within, h .0);
+          asks = w .asks j (omega (arith, w .met .two .within, h .1));
+          up = (
+            omega (arith, w .room, w .same, w .met .within),
+            (
+              omega (arith, w .one .few, h .0, w .met .one .within),
+              (omega (arith, w .few, h .1, w .met .two .within), omega (arith, w .one .few, w .few, h .0, h .1, w .met .one .within, w .met .two .within, w .met .crossed .few)),
+            ),
+          );
+        }
 
-    module _ (h : (i < u) × (j < v)) where
-      step-row : 2 * i + 1 < length a
-      step-row = omega (arith, w .one .fits, w .met .one .within, h .0)
+    -- ## A turn of both walks
 
-      step-asks : Asks j
-      step-asks = w .asks j (omega (arith, w .met .two .within, h .1))
-
-      step-up : (2 * t ≤ length out) × ((i ≤ rowLimit) × ((j ≤ rowLimit) × (k ≤ 2 * rowLimit)))
-      step-up = (
-        omega (arith, w .room, w .same, w .met .within),
-        (omega (arith, w .one .few, h .0, w .met .one .within), (omega (arith, w .few, h .1, w .met .two .within), omega (arith, w .one .few, w .few, h .0, h .1, w .met .one .within, w .met .two .within, w .met .crossed .few))),
-      )
-
-    -- one more from below
-    module _ {on : Bool} (s : Says ((i < u) × (j < v)) on) (g : on ≡ true) where
-      pub rest-row : 2 * i + 1 < length a
-      rest-row = step-row (s .right g)
-
-      pub rest-asks : Asks j
-      rest-asks = step-asks (s .right g)
-
-      pub rest-up : (2 * t ≤ length out) × ((i ≤ rowLimit) × ((j ≤ rowLimit) × (k ≤ 2 * rowLimit)))
-      rest-up = step-up (s .right g)
-
-      pub rest-more : {out′ : List ℕ} {i′ j′ k′ p e q f : ℕ} → Read (rowAt a) i p e → Read rb j q f
-          → Below t (rowAt out) i j k p e q f (rowAt out′) i′ j′ k′ → length out′ ≡ length out → Walk a n rb m Asks most len out′ i′ j′ k′ u v t
-      rest-more x y b l =
-          record { one = w .one; two = w .two; few = w .few; asks = w .asks; room = w .room; same = l ∙ w .same; met = meeting-rest _ _ _ _ _ (ruled-plain (w .one)) (w .two) (s .right g) x y b (w .met) }
-
-    -- one more from below and one from above
     module _ {on : Bool} (s : Says (Wide i j k u v t) on) (g : on ≡ true) where
-      step : (i < u) × (j < v)
-      step = (omega (arith, s .right g .left), omega (arith, s .right g .right))
+      pub turn-step : Step a Asks out i j k t
+      turn-step = step (omega (arith, s .right g .left), omega (arith, s .right g .right))
 
-      pub turn-row : 2 * i + 1 < length a
-      turn-row = step-row step
-
-      pub turn-asks : Asks j
-      turn-asks = step-asks step
-
-      pub turn-up : (2 * t ≤ length out) × ((i ≤ rowLimit) × ((j ≤ rowLimit) × (k ≤ 2 * rowLimit)))
-      turn-up = step-up step
-
-      pub turn-row-above : 2 * (u - 1) + 1 < length a
-      turn-row-above = omega (arith, w .one .fits, w .met .one .within, s .right g .left)
-
-      pub turn-asks-above : Asks (v - 1)
-      turn-asks-above = w .asks (v - 1) (omega (arith, w .met .two .within, s .right g .right))
+      pub turn-above : StepAbove a Asks u v
+      turn-above =
+          record {
+            left = omega (arith, s .right g .left);
+            right = omega (arith, s .right g .right);
+            row = omega (arith, w .one .fits, w .met .one .within, s .right g .left);
+            asks = w .asks (v - 1) (omega (arith, w .met .two .within, s .right g .right));
+          }
 
       pub turn-down : {l : ℕ} → l ≡ length out → (2 * t ≤ l) × ((0 < u) × ((0 < v) × (0 < t)))
       turn-down e = (omega (arith, w .room, w .same, w .met .within), (omega (arith, s .right g .left), (omega (arith, s .right g .right), omega (arith, s .right g .room))))
@@ -116,11 +109,17 @@ module _ {a : List ℕ} {n : ℕ} {rb : ℕ → inner.Row} {m : ℕ} {Asks : ℕ
       pub turn-more : {out₂ : List ℕ} {row′ : ℕ → inner.Row} {l i′ j′ k′ u′ v′ t′ p e q f p₂ e₂ q₂ f₂ : ℕ} → Read (rowAt a) i p e → Read rb j q f
           → Below t (rowAt out) i j k p e q f row′ i′ j′ k′ → l ≡ length out → Read (rowAt a) (u - 1) p₂ e₂ → Read rb (v - 1) q₂ f₂
           → Above row′ u v t p₂ e₂ q₂ f₂ (rowAt out₂) u′ v′ t′ → length out₂ ≡ l → Walk a n rb m Asks most len out₂ i′ j′ k′ u′ v′ t′
-      turn-more x y b l x₂ y₂ c l₂ =
-          record { one = w .one; two = w .two; few = w .few; asks = w .asks; room = w .room; same = l₂ ∙ (l ∙ w .same); met = meeting-turn _ _ _ _ _ (ruled-plain (w .one)) (w .two) (s .right g) x y b x₂ y₂ c (w .met) }
+      turn-more x y b l x₂ y₂ c l₂ = walk-to (l₂ ∙ l) (meeting-turn _ _ _ _ _ (ruled-plain (w .one)) (w .two) (s .right g) x y b x₂ y₂ c (w .met))
 
-pub turn-some : {i j k u v t : ℕ} {on : Bool} → Says (Wide i j k u v t) on → on ≡ true → (1 ≤ u) × (1 ≤ v)
-turn-some s g = (omega (arith, s .right g .left), omega (arith, s .right g .right))
+    -- ## And of the one from below alone
+
+    module _ {on : Bool} (s : Says ((i < u) × (j < v)) on) (g : on ≡ true) where
+      pub rest-step : Step a Asks out i j k t
+      rest-step = step (s .right g)
+
+      pub rest-more : {out′ : List ℕ} {i′ j′ k′ p e q f : ℕ} → Read (rowAt a) i p e → Read rb j q f
+          → Below t (rowAt out) i j k p e q f (rowAt out′) i′ j′ k′ → length out′ ≡ length out → Walk a n rb m Asks most len out′ i′ j′ k′ u v t
+      rest-more x y b l = walk-to l (meeting-rest _ _ _ _ _ (ruled-plain (w .one)) (w .two) (s .right g) x y b (w .met))
 
 pub turn-less : {i j k u v t p e q f i′ j′ k′ p₂ e₂ q₂ f₂ u′ v′ t′ : ℕ} {on : Bool} {row row′ row₂ : ℕ → inner.Row} → Says (Wide i j k u v t) on → on ≡ true
     → Below t row i j k p e q f row′ i′ j′ k′ → Above row′ u v t p₂ e₂ q₂ f₂ row₂ u′ v′ t′ → (u′ + v′) - (i′ + j′) < (u + v) - (i + j)
