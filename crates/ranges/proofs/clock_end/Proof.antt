@@ -6,17 +6,11 @@ use borrow.Author.Needs.{needs}
 use Rattle.ranges.proofs.clock_end.Statement.{statement}
 use Rattle.ranges.proofs.clock_end.Tie as tie
 
-well-formed-requires : tie.Need-well-formed-requires
-well-formed-requires c κs = search needs
-
 returns : tie.Need-returns
 returns c = refused (c .before .well-formed .ensures) (c .if1 .taken)
 
 returns-2 : tie.Need-returns-2
 returns-2 c = let e : tie.Else1 = search in told (e .before .well-formed .ensures) (e .if1 .left) none (λ _. edge-none _ _ (c .if2 .taken) .1)
-
-sub-end-at : tie.Need-sub-end-at
-sub-end-at c = search needs
 
 end-at-requires : tie.Need-end-at-requires
 end-at-requires c κs = let e : tie.Else1 = search in omega (arith, formed (e .before .well-formed .ensures) (e .if1 .left) .fits)
@@ -27,4 +21,4 @@ returns-3 c = let e : tie.Else1 = search in told (e .before .well-formed .ensure
 pub clock-end-spec : {M : Type 1} → statement M
 clock-end-spec =
     tie.close
-    (tie.spec well-formed-requires returns returns-2 sub-end-at end-at-requires returns-3)
+    (tie.spec (λ c κs. search needs) returns returns-2 (λ c. search needs) end-at-requires returns-3)

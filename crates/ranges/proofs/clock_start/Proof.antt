@@ -6,9 +6,6 @@ use borrow.Author.Needs.{needs}
 use Rattle.ranges.proofs.clock_start.Statement.{statement}
 use Rattle.ranges.proofs.clock_start.Tie as tie
 
-well-formed-requires : tie.Need-well-formed-requires
-well-formed-requires c κs = search needs
-
 returns : tie.Need-returns
 returns c = refused (c .before .well-formed .ensures) (c .if1 .taken)
 
@@ -23,4 +20,4 @@ returns-3 c = let e : tie.Else1 = search in told (e .before .well-formed .ensure
 
 pub clock-start-spec : {M : Type 1} → statement M
 clock-start-spec =
-    tie.close (tie.spec well-formed-requires returns returns-2 start-at-requires returns-3)
+    tie.close (tie.spec (λ c κs. search needs) returns returns-2 start-at-requires returns-3)

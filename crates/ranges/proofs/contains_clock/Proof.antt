@@ -5,17 +5,8 @@ use borrow.Author.Needs.{needs}
 use Rattle.ranges.proofs.contains_clock.Statement.{statement}
 use Rattle.ranges.proofs.contains_clock.Tie as tie
 
-well-formed-requires : tie.Need-well-formed-requires
-well-formed-requires c κs = search needs
-
 returns : tie.Need-returns
 returns c = refused (c .before .well-formed .ensures) (c .if1 .taken)
-
-cast-ends-below : tie.Need-cast-ends-below
-cast-ends-below c = search needs
-
-add-ends-below : tie.Need-add-ends-below
-add-ends-below c = search needs
 
 ends-below-requires : tie.Need-ends-below-requires
 ends-below-requires c κs = (formed (c .before .well-formed .ensures) (c .if1 .left), omega arith)
@@ -42,10 +33,10 @@ pub contains-clock-spec : {M : Type 1} → statement M
 contains-clock-spec =
     tie.close
     (tie.spec
-    well-formed-requires
+    (λ c κs. search needs)
     returns
-    cast-ends-below
-    add-ends-below
+    (λ c. search needs)
+    (λ c. search needs)
     ends-below-requires
     returns-2
     start-at-requires

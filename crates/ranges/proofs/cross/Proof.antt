@@ -82,9 +82,6 @@ loop-again c =
 loop2-holds : tie.Need-loop2-holds Inv-loop μ-loop Inv-loop2 μ-loop2
 loop2-holds c = walk-on (c .before .before .loop .inv)
 
-between-requires : tie.Need-between-requires Inv-loop μ-loop Inv-loop2 μ-loop2
-between-requires c κs = search needs
-
 row-at-requires-5 : tie.Need-row-at-requires-5 Inv-loop μ-loop Inv-loop2 μ-loop2
 row-at-requires-5 c κs = let r : Rest = search in rest-step (r .before .before .loop2 .inv) (r .before .between .ensures) (r .if2 .taken) .row
 
@@ -143,7 +140,7 @@ cross-spec =
     loop-less
     loop-again
     loop2-holds
-    between-requires
+    (λ c κs. search needs)
     row-at-requires-5
     row-at-requires-6
     up-requires-2

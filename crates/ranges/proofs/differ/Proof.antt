@@ -97,9 +97,6 @@ loop-again c =
 loop2-holds : tie.Need-loop2-holds Inv-loop μ-loop Inv-loop2 μ-loop2
 loop2-holds c = walk-on (c .before .before .loop .inv)
 
-between-requires : tie.Need-between-requires Inv-loop μ-loop Inv-loop2 μ-loop2
-between-requires c κs = search needs
-
 row-at-requires-3 : tie.Need-row-at-requires-3 Inv-loop μ-loop Inv-loop2 μ-loop2
 row-at-requires-3 c κs = let r : Rest = search in rest-step (r .before .before .loop2 .inv) (r .before .between .ensures) (r .if2 .taken) .row
 
@@ -169,7 +166,7 @@ differ-spec =
     loop-less
     loop-again
     loop2-holds
-    between-requires
+    (λ c κs. search needs)
     row-at-requires-3
     add-gap-at-3
     gap-at-requires-3

@@ -5,17 +5,8 @@ use borrow.Author.Needs.{needs}
 use Rattle.ranges.proofs.find_start.Statement.{statement}
 use Rattle.ranges.proofs.find_start.Tie as tie
 
-well-formed-requires : tie.Need-well-formed-requires
-well-formed-requires c κs = search needs
-
 returns : tie.Need-returns
 returns c = refused (c .before .well-formed .ensures) (c .if1 .taken)
-
-cast-ends-below : tie.Need-cast-ends-below
-cast-ends-below c = search needs
-
-add-ends-below : tie.Need-add-ends-below
-add-ends-below c = search needs
 
 ends-below-requires : tie.Need-ends-below-requires
 ends-below-requires c κs = (formed (c .before .well-formed .ensures) (c .if1 .left), omega arith)
@@ -30,10 +21,10 @@ pub find-start-spec : {M : Type 1} → statement M
 find-start-spec =
     tie.close
     (tie.spec
-    well-formed-requires
+    (λ c κs. search needs)
     returns
-    cast-ends-below
-    add-ends-below
+    (λ c. search needs)
+    (λ c. search needs)
     ends-below-requires
     returns-2
     returns-3)

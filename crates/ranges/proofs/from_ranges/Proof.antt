@@ -13,17 +13,8 @@ Inv-loop l n out₀ most k₀ i₀ out k i = Grown l n i (length out₀) out k
 abbrev μ-loop : tie.MeasureT-loop
 μ-loop l n out₀ most k₀ i₀ out k i = n - i
 
-zero-requires : tie.Need-zero-requires Inv-loop μ-loop
-zero-requires c κs = search needs
-
-same-length : tie.Need-same-length Inv-loop μ-loop
-same-length c = search needs
-
 returns : tie.Need-returns Inv-loop μ-loop
 returns c = from-malformed _ _ _ (omega arith) (c .before .before .zero .ensures)
-
-room-requires : tie.Need-room-requires Inv-loop μ-loop
-room-requires c κs = search needs
 
 loop-holds : tie.Need-loop-holds Inv-loop μ-loop
 loop-holds c = grown-none (omega arith)
@@ -36,9 +27,6 @@ end-at-requires c κs = let t : tie.In-loop Inv-loop μ-loop = search in omega (
 
 grow-requires : tie.Need-grow-requires Inv-loop μ-loop
 grow-requires c κs = let t : tie.In-loop Inv-loop μ-loop = search in t .before .loop .inv .ruled
-
-zero-requires-2 : tie.Need-zero-requires-2 Inv-loop μ-loop
-zero-requires-2 c κs = search needs
 
 same-length-2 : tie.Need-same-length-2 Inv-loop μ-loop
 same-length-2 c =
@@ -56,21 +44,12 @@ returns-2 c =
     let l = t .before in
     grown-full (l .loop .inv) (g .grow .last .0) (t .loop-test .taken) (g .before .before .start-at .ensures) (g .before .end-at .ensures) (g .grow .ensures) (g .grow .kept .0) (l .before .room .ensures) (f .if2 .taken) (z .zero2 .ensures)
 
-add-i : tie.Need-add-i Inv-loop μ-loop
-add-i c = search needs
-
-loop-less : tie.Need-loop-less Inv-loop μ-loop
-loop-less c = search needs
-
 loop-again : tie.Need-loop-again Inv-loop μ-loop
 loop-again c =
     let g : tie.After-grow Inv-loop μ-loop = search in
     let t : tie.In-loop Inv-loop μ-loop = search in
     let l = t .before in
     grown-more (l .loop .inv) (g .grow .last .0) (t .loop-test .taken) (g .before .before .start-at .ensures) (g .before .end-at .ensures) (g .grow .ensures) (g .grow .kept .0) (l .before .room .ensures) (c .if2 .left)
-
-finish-requires : tie.Need-finish-requires Inv-loop μ-loop
-finish-requires c κs = search needs
 
 same-length-3 : tie.Need-same-length-3 Inv-loop μ-loop
 same-length-3 c =
@@ -90,20 +69,20 @@ from-ranges-spec =
     (tie.spec
     Inv-loop
     μ-loop
-    zero-requires
-    same-length
+    (λ c κs. search needs)
+    (λ c. search needs)
     returns
-    room-requires
+    (λ c κs. search needs)
     loop-holds
     start-at-requires
     end-at-requires
     grow-requires
-    zero-requires-2
+    (λ c κs. search needs)
     same-length-2
     returns-2
-    add-i
-    loop-less
+    (λ c. search needs)
+    (λ c. search needs)
     loop-again
-    finish-requires
+    (λ c κs. search needs)
     same-length-3
     returns-3)

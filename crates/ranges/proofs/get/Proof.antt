@@ -7,9 +7,6 @@ use borrow.Author.Needs.{needs}
 use Rattle.ranges.proofs.get.Statement.{statement}
 use Rattle.ranges.proofs.get.Tie as tie
 
-well-formed-requires : tie.Need-well-formed-requires
-well-formed-requires c κs = search needs
-
 returns : tie.Need-returns
 returns c = refused (c .before .well-formed .ensures) (c .if1 .taken)
 
@@ -30,4 +27,4 @@ returns-3 c =
 pub get-spec : {M : Type 1} → statement M
 get-spec =
     tie.close
-    (tie.spec well-formed-requires returns returns-2 start-at-requires end-at-requires returns-3)
+    (tie.spec (λ c κs. search needs) returns returns-2 start-at-requires end-at-requires returns-3)

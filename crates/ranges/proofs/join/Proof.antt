@@ -4,32 +4,11 @@ use borrow.Author.Needs.{needs}
 use Rattle.ranges.proofs.join.Statement.{statement}
 use Rattle.ranges.proofs.join.Tie as tie
 
-store-start-requires : tie.Need-store-start-requires
-store-start-requires c κs = search needs
-
-counted-requires : tie.Need-counted-requires
-counted-requires c κs = search needs
-
-further-requires : tie.Need-further-requires
-further-requires c κs = search needs
-
 sub-store-end : tie.Need-sub-store-end
 sub-store-end c =
     let k : tie.After-counted = search in
     let s : tie.Start = search in
     counted-some _ _ _ _ _ _ (s .pre .1 .0) (k .counted .ensures)
-
-sub-store-end-2 : tie.Need-sub-store-end-2
-sub-store-end-2 c = search needs
-
-cast-store-end : tie.Need-cast-store-end
-cast-store-end c = search needs
-
-store-end-requires : tie.Need-store-end-requires
-store-end-requires c κs = search needs
-
-same-length : tie.Need-same-length
-same-length c = search needs
 
 returns : tie.Need-returns
 returns c =
@@ -43,12 +22,12 @@ pub join-spec : {M : Type 1} → statement M
 join-spec =
     tie.close
     (tie.spec
-    store-start-requires
-    counted-requires
-    further-requires
+    (λ c κs. search needs)
+    (λ c κs. search needs)
+    (λ c κs. search needs)
     sub-store-end
-    sub-store-end-2
-    cast-store-end
-    store-end-requires
-    same-length
+    (λ c. search needs)
+    (λ c. search needs)
+    (λ c κs. search needs)
+    (λ c. search needs)
     returns)

@@ -1,18 +1,8 @@
 use Rattle.tables.proofs.Sets.{union-means}
 use Rattle.ranges.proofs.Writing.{refuses-both, both-asks, finished}
-use native.Mathlib.Omega.{arith}
 use borrow.Author.Needs.{needs}
 use Rattle.ranges.proofs.merge.Statement.{statement}
 use Rattle.ranges.proofs.merge.Tie as tie
-
-both-requires : tie.Need-both-requires
-both-requires c κs = search needs
-
-zero-requires : tie.Need-zero-requires
-zero-requires c κs = search needs
-
-same-length : tie.Need-same-length
-same-length c = search needs
 
 returns : tie.Need-returns
 returns c =
@@ -20,19 +10,10 @@ returns c =
     let t : tie.Then1 = search in
     refuses-both _ (t .before .both .ensures) (t .if1 .taken) (z .zero .ensures)
 
-room-requires : tie.Need-room-requires
-room-requires c κs = search needs
-
 unite-requires : tie.Need-unite-requires
 unite-requires c κs =
     let r : tie.After-room = search in
     both-asks _ (r .before .before .both .ensures) (r .before .if1 .left) (r .room .ensures)
-
-finish-requires : tie.Need-finish-requires
-finish-requires c κs = search needs
-
-same-length-2 : tie.Need-same-length-2
-same-length-2 c = search needs
 
 returns-2 : tie.Need-returns-2
 returns-2 c =
@@ -45,12 +26,12 @@ pub merge-spec : {M : Type 1} → statement M
 merge-spec =
     tie.close
     (tie.spec
-    both-requires
-    zero-requires
-    same-length
+    (λ c κs. search needs)
+    (λ c κs. search needs)
+    (λ c. search needs)
     returns
-    room-requires
+    (λ c κs. search needs)
     unite-requires
-    finish-requires
-    same-length-2
+    (λ c κs. search needs)
+    (λ c. search needs)
     returns-2)

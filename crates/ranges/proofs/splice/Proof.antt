@@ -8,32 +8,14 @@ use borrow.Author.Needs.{needs}
 use Rattle.ranges.proofs.splice.Statement.{statement}
 use Rattle.ranges.proofs.splice.Tie as tie
 
-size-requires : tie.Need-size-requires
-size-requires c κs = search needs
-
 add-k : tie.Need-add-k
 add-k c = omega (arith, sized _ _ (c .size .ensures))
-
-size-requires-2 : tie.Need-size-requires-2
-size-requires-2 c κs = search needs
 
 add-k-2 : tie.Need-add-k-2
 add-k-2 c = omega (arith, sized _ _ (c .before .size .ensures), sized _ _ (c .size2 .ensures))
 
-sub-k : tie.Need-sub-k
-sub-k c = search needs
-
 add-k-3 : tie.Need-add-k-3
 add-k-3 c = omega (arith, sized _ _ (c .before .size .ensures), sized _ _ (c .size2 .ensures))
-
-room-requires : tie.Need-room-requires
-room-requires c κs = search needs
-
-finish-requires : tie.Need-finish-requires
-finish-requires c κs = search needs
-
-same-length : tie.Need-same-length
-same-length c = search needs
 
 returns : tie.Need-returns
 returns c =
@@ -43,24 +25,6 @@ returns c =
     let a = s .args in
     f .finish .ensures _
     (laid-over _ (rowAt (a .t .now)) (a .i) (a .j) (a .n) (range (a .p .start) (a .p .end)) (range (a .q .start) (a .q .end)) (omega (arith, r .room .ensures)) (omega (arith, r .before .before .size .ensures, r .before .size2 .ensures)))
-
-copy-requires : tie.Need-copy-requires
-copy-requires c κs = search needs
-
-put-requires : tie.Need-put-requires
-put-requires c κs = search needs
-
-put-requires-2 : tie.Need-put-requires-2
-put-requires-2 c κs = search needs
-
-copy-requires-2 : tie.Need-copy-requires-2
-copy-requires-2 c κs = search needs
-
-finish-requires-2 : tie.Need-finish-requires-2
-finish-requires-2 c κs = search needs
-
-same-length-2 : tie.Need-same-length-2
-same-length-2 c = search needs
 
 returns-2 : tie.Need-returns-2
 returns-2 c =
@@ -77,20 +41,20 @@ pub splice-spec : {M : Type 1} → statement M
 splice-spec =
     tie.close
     (tie.spec
-    size-requires
+    (λ c κs. search needs)
     add-k
-    size-requires-2
+    (λ c κs. search needs)
     add-k-2
-    sub-k
+    (λ c. search needs)
     add-k-3
-    room-requires
-    finish-requires
-    same-length
+    (λ c κs. search needs)
+    (λ c κs. search needs)
+    (λ c. search needs)
     returns
-    copy-requires
-    put-requires
-    put-requires-2
-    copy-requires-2
-    finish-requires-2
-    same-length-2
+    (λ c κs. search needs)
+    (λ c κs. search needs)
+    (λ c κs. search needs)
+    (λ c κs. search needs)
+    (λ c κs. search needs)
+    (λ c. search needs)
     returns-2)
