@@ -29,9 +29,6 @@ Turn = tie.Then1 Inv-loop μ-loop Inv-loop2 μ-loop2
 abbrev Rest : Type 0
 Rest = tie.Then2 Inv-loop μ-loop Inv-loop2 μ-loop2
 
-gaps-from-requires : tie.Need-gaps-from-requires Inv-loop μ-loop Inv-loop2 μ-loop2
-gaps-from-requires c κs = let s : tie.Start Inv-loop μ-loop Inv-loop2 μ-loop2 = search in omega (arith, s .pre .1 .0 .fits)
-
 gaps-to-requires : tie.Need-gaps-to-requires Inv-loop μ-loop Inv-loop2 μ-loop2
 gaps-to-requires c κs = let s : tie.Start Inv-loop μ-loop Inv-loop2 μ-loop2 = search in (omega (arith, s .pre .1 .0 .fits), s .pre .1 .0 .few)
 
@@ -48,9 +45,6 @@ apart-requires c κs = walk-bounds (c .loop .inv)
 
 row-at-requires : tie.Need-row-at-requires Inv-loop μ-loop Inv-loop2 μ-loop2
 row-at-requires c κs = let t : Turn = search in turn-step (t .before .before .loop .inv) (t .before .apart .ensures) (t .if1 .taken) .row
-
-add-gap-at : tie.Need-add-gap-at Inv-loop μ-loop Inv-loop2 μ-loop2
-add-gap-at c = let t : Turn = search in omega (arith, turn-step (t .before .before .loop .inv) (t .before .apart .ensures) (t .if1 .taken) .asks)
 
 gap-at-requires : tie.Need-gap-at-requires Inv-loop μ-loop Inv-loop2 μ-loop2
 gap-at-requires c κs = let t : Turn = search in turn-step (t .before .before .loop .inv) (t .before .apart .ensures) (t .if1 .taken) .asks
@@ -100,9 +94,6 @@ loop2-holds c = walk-on (c .before .before .loop .inv)
 row-at-requires-3 : tie.Need-row-at-requires-3 Inv-loop μ-loop Inv-loop2 μ-loop2
 row-at-requires-3 c κs = let r : Rest = search in rest-step (r .before .before .loop2 .inv) (r .before .between .ensures) (r .if2 .taken) .row
 
-add-gap-at-3 : tie.Need-add-gap-at-3 Inv-loop μ-loop Inv-loop2 μ-loop2
-add-gap-at-3 c = let r : Rest = search in omega (arith, rest-step (r .before .before .loop2 .inv) (r .before .between .ensures) (r .if2 .taken) .asks)
-
 gap-at-requires-3 : tie.Need-gap-at-requires-3 Inv-loop μ-loop Inv-loop2 μ-loop2
 gap-at-requires-3 c κs = let r : Rest = search in rest-step (r .before .before .loop2 .inv) (r .before .between .ensures) (r .if2 .taken) .asks
 
@@ -148,13 +139,13 @@ differ-spec =
     μ-loop
     Inv-loop2
     μ-loop2
-    gaps-from-requires
+    (λ c κs. search needs)
     gaps-to-requires
     sub-t11
     loop-holds
     apart-requires
     row-at-requires
-    add-gap-at
+    (λ c. search needs)
     gap-at-requires
     up-requires
     sub-row-at
@@ -168,7 +159,7 @@ differ-spec =
     loop2-holds
     (λ c κs. search needs)
     row-at-requires-3
-    add-gap-at-3
+    (λ c. search needs)
     gap-at-requires-3
     up-requires-2
     loop2-less

@@ -19,15 +19,6 @@ returns c = from-malformed _ _ _ (omega arith) (c .before .before .zero .ensures
 loop-holds : tie.Need-loop-holds Inv-loop μ-loop
 loop-holds c = grown-none (omega arith)
 
-start-at-requires : tie.Need-start-at-requires Inv-loop μ-loop
-start-at-requires c κs = let t : tie.In-loop Inv-loop μ-loop = search in omega (arith, t .before .loop .inv .fits)
-
-end-at-requires : tie.Need-end-at-requires Inv-loop μ-loop
-end-at-requires c κs = let t : tie.In-loop Inv-loop μ-loop = search in omega (arith, t .before .loop .inv .fits)
-
-grow-requires : tie.Need-grow-requires Inv-loop μ-loop
-grow-requires c κs = let t : tie.In-loop Inv-loop μ-loop = search in t .before .loop .inv .ruled
-
 same-length-2 : tie.Need-same-length-2 Inv-loop μ-loop
 same-length-2 c =
     let z : tie.After-zero2 Inv-loop μ-loop = search in
@@ -74,9 +65,9 @@ from-ranges-spec =
     returns
     (λ c κs. search needs)
     loop-holds
-    start-at-requires
-    end-at-requires
-    grow-requires
+    (λ c κs. search needs)
+    (λ c κs. search needs)
+    (λ c κs. search needs)
     (λ c κs. search needs)
     same-length-2
     returns-2

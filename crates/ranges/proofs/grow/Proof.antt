@@ -10,9 +10,6 @@ use Rattle.ranges.proofs.grow.Tie as tie
 returns : tie.Need-returns
 returns c = let s : tie.Start = search in grown-same (s .pre) (s .args .s) (s .args .e) (omega arith)
 
-tail-below-requires : tie.Need-tail-below-requires
-tail-below-requires c κs = let s : tie.Start = search in (s .pre, omega arith)
-
 starts-below-requires : tie.Need-starts-below-requires
 starts-below-requires c κs = let s : tie.Start = search in (s .pre, (omega arith, parted-from _ (ruled-plain (s .pre)) (c .before .tail-below .ensures) (omega arith)))
 
@@ -48,7 +45,7 @@ grow-spec =
     tie.close
     (tie.spec
     returns
-    tail-below-requires
+    (λ c κs. search needs)
     (λ c. search needs)
     starts-below-requires
     (λ c κs. search needs)

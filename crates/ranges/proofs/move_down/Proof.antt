@@ -14,17 +14,8 @@ abbrev μ-loop : tie.MeasureT-loop
 loop-holds : tie.Need-loop-holds Inv-loop μ-loop
 loop-holds c = (lowered-none _ _ _, omega arith)
 
-slice-read-out : tie.Need-slice-read-out Inv-loop μ-loop
-slice-read-out c = omega (arith, c .before .before .loop .inv .0 .copied .same)
-
-slice-write-out : tie.Need-slice-write-out Inv-loop μ-loop
-slice-write-out c = omega (arith, c .before .before .loop .inv .0 .copied .same)
-
 loop-again : tie.Need-loop-again Inv-loop μ-loop
 loop-again c = (lowered-more (c .before .before .loop .inv .0) (omega arith) (omega arith), omega arith)
-
-same-length : tie.Need-same-length Inv-loop μ-loop
-same-length c = c .before .loop .inv .0 .copied .same
 
 returns : tie.Need-returns Inv-loop μ-loop
 returns c = copied-rows (c .before .loop .inv .0 .copied) (omega arith)
@@ -42,12 +33,12 @@ move-down-spec =
     loop-holds
     (λ c. search needs)
     (λ c. search needs)
-    slice-read-out
     (λ c. search needs)
     (λ c. search needs)
-    slice-write-out
+    (λ c. search needs)
+    (λ c. search needs)
     (λ c. search needs)
     (λ c. search needs)
     loop-again
-    same-length
+    (λ c. search needs)
     returns)

@@ -15,17 +15,8 @@ abbrev μ-loop : tie.MeasureT-loop
 loop-holds : tie.Need-loop-holds Inv-loop μ-loop
 loop-holds c = (raised-none _ _, omega arith)
 
-slice-read-part : tie.Need-slice-read-part Inv-loop μ-loop
-slice-read-part c = omega (arith, c .before .before .loop .inv .0 .same)
-
-slice-write-part : tie.Need-slice-write-part Inv-loop μ-loop
-slice-write-part c = omega (arith, c .before .before .loop .inv .0 .same)
-
 loop-again : tie.Need-loop-again Inv-loop μ-loop
 loop-again c = (raised-more _ (c .before .before .loop .inv .0) (omega arith) (omega arith), omega arith)
-
-same-length : tie.Need-same-length Inv-loop μ-loop
-same-length c = c .before .loop .inv .0 .same
 
 returns : tie.Need-returns Inv-loop μ-loop
 returns c = raised-rows {i = 0} (c .before .loop .inv .0) (omega arith)
@@ -40,11 +31,11 @@ move-up-spec =
     loop-holds
     (λ c. search needs)
     (λ c. search needs)
-    slice-read-part
     (λ c. search needs)
     (λ c. search needs)
-    slice-write-part
+    (λ c. search needs)
+    (λ c. search needs)
     (λ c. search needs)
     loop-again
-    same-length
+    (λ c. search needs)
     returns)

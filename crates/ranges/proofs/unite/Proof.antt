@@ -42,9 +42,6 @@ loop-holds c = let s : tie.Start Inv-loop μ-loop = search in (uniting-none (s .
 rest-requires : tie.Need-rest-requires Inv-loop μ-loop
 rest-requires c κs = let t : tie.Then1 Inv-loop μ-loop = search in uniting-left (t .before .before .loop .inv .0) (t .if1 .taken)
 
-waited-requires : tie.Need-waited-requires Inv-loop μ-loop
-waited-requires c κs = let t : Turn = search in omega (arith, t .before .before .loop .inv .0 .two .few, t .if1 .left)
-
 join-requires : tie.Need-join-requires Inv-loop μ-loop
 join-requires c κs =
     let f : Found = search in
@@ -98,7 +95,7 @@ unite-spec =
     (λ c κs. search needs)
     (λ c κs. search needs)
     (λ c κs. search needs)
-    waited-requires
+    (λ c κs. search needs)
     join-requires
     (λ c κs. search needs)
     (λ c κs. search needs)
