@@ -24,14 +24,8 @@ Turn = tie.Else1 Inv-loop μ-loop
 abbrev Found : Type 0
 Found = tie.After-waited Inv-loop μ-loop
 
-abbrev start : Turn → tie.Start Inv-loop μ-loop
-start c = search
-
-abbrev turn : Found → Turn
-turn c = search
-
-first : (c : Found) → let t = turn c in let a = start t .args in let l = t .before .before .loop in
-    First (rowAt (a .a .now)) (rowAt (a .b .now)) (l .i) (l .j) (l .p) (l .q) (c .before .before .before .lower .result) (c .before .before .first .result) (c .before .passed .result) (c .waited .result)
+first : (c : Found) → let s : tie.Start Inv-loop μ-loop = search in let l : tie.At-loop Inv-loop μ-loop = search in
+    First (rowAt (s .args .a .now)) (rowAt (s .args .b .now)) (l .loop .i) (l .loop .j) (l .loop .p) (l .loop .q) (c .before .before .before .lower .result) (c .before .before .first .result) (c .before .passed .result) (c .waited .result)
 first c =
     let e : tie.After-end-at2 Inv-loop μ-loop = search in
     first-of (e .before .end-at .ensures) (e .end-at2 .ensures) (c .before .before .before .lower .ensures) (c .before .before .first .ensures) (c .before .passed .ensures) (c .waited .ensures)
@@ -45,14 +39,14 @@ rest-requires c κs = let t : tie.Then1 Inv-loop μ-loop = search in uniting-lef
 join-requires : tie.Need-join-requires Inv-loop μ-loop
 join-requires c κs =
     let f : Found = search in
-    let t = turn f in
+    let t : Turn = search in
     let v = t .before .before .loop .inv in
     first-asks (v .0) (t .before .loop-test .taken) (t .if1 .left) (v .1) (v .2) (first f)
 
 loop-less : tie.Need-loop-less Inv-loop μ-loop
 loop-less c =
     let f : Found = search in
-    let t = turn f in
+    let t : Turn = search in
     let v = t .before .before .loop .inv in
     first-less (v .0) (t .before .loop-test .taken) (t .if1 .left) (v .1) (v .2) (first f)
 
@@ -61,7 +55,7 @@ loop-again c =
     let j : tie.After-join Inv-loop μ-loop = search in
     let f : Found = search in
     let o : tie.After-start-or4 Inv-loop μ-loop = search in
-    let t = turn f in
+    let t : Turn = search in
     let v = t .before .before .loop .inv in (
       first-more (v .0) (t .before .loop-test .taken) (t .if1 .left) (v .1) (v .2) (first f) (j .join .kept .0) (j .join .ensures) (omega (arith, f .before .before .first .ok)) (c .before .before .further .ensures),
       passed-starting (v .1) (o .before .start-or3 .ensures) (f .before .passed .ensures) (c .onward .ensures),
