@@ -1,105 +1,75 @@
+-- Malformed, the same table, or the rows that the range meets replaced. Assumes nothing.
 use native.Mathlib.Omega.{arith}
-use borrow.Author.Tests.{not-true, not-false}
-use Rattle.tables.specs.Inner.Rows.{union}
-use Rattle.tables.proofs.Sets.{union-means}
-use Rattle.tables.proofs.Inserting.{parted-from, unit-union, union-keeps}
-use Rattle.ranges.proofs.Writing.{refuses}
-use Rattle.ranges.proofs.Editing.{ruled-plain, gives-edited, same-rows, inserted-rows}
-use Rattle.ranges.proofs.Flat.{table-ruled}
 use borrow.Author.Needs.{needs}
+use Rattle.ranges.proofs.Asking.{formed}
+use Rattle.ranges.proofs.Editing.{refuses-one, splice-asks, starts-ask, inserted-none, inserted-some}
 use Rattle.ranges.proofs.insert.Statement.{statement}
 use Rattle.ranges.proofs.insert.Tie as tie
 
-well-formed-requires : tie.Need-well-formed-requires
-well-formed-requires c κs = search needs
-
-zero-requires : tie.Need-zero-requires
-zero-requires c κs = search needs
-
-same-length : tie.Need-same-length
-same-length c = search needs
-
 returns : tie.Need-returns
-returns c = refuses _ (λ t. c .before .before .before .before .before .well-formed .ensures .wrong (not-true _ (c .before .before .before .before .if1 .taken)) (table-ruled t)) (c .before .before .zero .ensures)
+returns c =
+    let z : tie.After-zero = search in
+    let t : tie.Then1 = search in
+    refuses-one _ (t .before .well-formed .ensures) (t .if1 .taken) (z .zero .ensures)
 
 splice-requires : tie.Need-splice-requires
-splice-requires c κs = (omega (arith, c .before .before .before .well-formed .ensures .right (not-false _ (c .before .before .if1 .left)) .fits), (omega arith, omega arith))
-
-same-length-2 : tie.Need-same-length-2
-same-length-2 c = search needs
+splice-requires c κs = let e : tie.Else1 = search in splice-asks (e .before .well-formed .ensures) (e .if1 .left) (omega arith) (omega arith)
 
 returns-2 : tie.Need-returns-2
 returns-2 c =
-    let d = c .before .before .before .before .before in
-    let d′ = d .before in
-    let s = d′ .before .before .before in
-    gives-edited (s .args .start .0) (s .args .end .0) union-means (d′ .well-formed .ensures .right (not-false _ (d .if1 .left))) (same-rows (d′ .well-formed .ensures .right (not-false _ (d .if1 .left))) union unit-union union-keeps (s .args .start .0) (s .args .end .0) (omega arith)) (c .before .before .splice .ensures)
-
-cast-ends-below : tie.Need-cast-ends-below
-cast-ends-below c = search needs
+    let w : tie.After-splice = search in
+    let s : tie.Then2 = search in
+    let e : tie.Else1 = search in
+    inserted-none (e .before .well-formed .ensures) (e .if1 .left) (s .if2 .taken) (w .splice .ensures)
 
 ends-below-requires : tie.Need-ends-below-requires
-ends-below-requires c κs = (c .before .before .well-formed .ensures .right (not-false _ (c .before .if1 .left)), omega arith)
-
-cast-starts-below : tie.Need-cast-starts-below
-cast-starts-below c = search needs
-
-add-starts-below : tie.Need-add-starts-below
-add-starts-below c = search needs
+ends-below-requires c κs = let e : tie.Else1 = search in (formed (e .before .well-formed .ensures) (e .if1 .left), omega arith)
 
 starts-below-requires : tie.Need-starts-below-requires
-starts-below-requires c κs =
-    let d = c .before .before .before in
-    (d .well-formed .ensures .right (not-false _ (c .before .before .if1 .left)), (omega arith, parted-from _ (ruled-plain (d .well-formed .ensures .right (not-false _ (c .before .before .if1 .left)))) (c .ends-below .ensures) (omega arith)))
+starts-below-requires c κs = let e : tie.Else1 = search in starts-ask (e .before .well-formed .ensures) (e .if1 .left) (omega arith) (omega arith) (c .ends-below .ensures)
 
 start-or-requires : tie.Need-start-or-requires
-start-or-requires c κs = omega (arith, c .before .before .before .before .well-formed .ensures .right (not-false _ (c .before .before .before .if1 .left)) .fits)
+start-or-requires c κs = let e : tie.Else1 = search in omega (arith, formed (e .before .well-formed .ensures) (e .if1 .left) .fits)
 
 end-or-requires : tie.Need-end-or-requires
-end-or-requires c κs = omega (arith, c .before .before .before .before .before .well-formed .ensures .right (not-false _ (c .before .before .before .before .if1 .left)) .fits, c .before .starts-below .ensures .0 .within)
-
-lower-requires : tie.Need-lower-requires
-lower-requires c κs = search needs
-
-higher-requires : tie.Need-higher-requires
-higher-requires c κs = search needs
+end-or-requires c κs = let e : tie.Else1 = search in omega (arith, formed (e .before .well-formed .ensures) (e .if1 .left) .fits, c .before .starts-below .ensures .0 .within)
 
 splice-requires-2 : tie.Need-splice-requires-2
 splice-requires-2 c κs =
-    let d = c .before .before .before .before .before in
-    (omega (arith, d .before .before .before .before .well-formed .ensures .right (not-false _ (d .before .before .before .if1 .left)) .fits), (omega (arith, d .starts-below .ensures .1), d .starts-below .ensures .0 .within))
-
-same-length-3 : tie.Need-same-length-3
-same-length-3 c = search needs
+    let j : tie.After-starts-below = search in
+    let e : tie.Else1 = search in
+    splice-asks (e .before .well-formed .ensures) (e .if1 .left) (j .starts-below .ensures .1) (j .starts-below .ensures .0 .within)
 
 returns-3 : tie.Need-returns-3
 returns-3 c =
-    let d = c .before .before .before .before .before .before .before .before in
-    let d′ = d .before .before .before in
-    let d′′ = d′ .before in
-    let s = d′′ .before .before .before in
-    gives-edited (s .args .start .0) (s .args .end .0) union-means (d′′ .well-formed .ensures .right (not-false _ (d′ .if1 .left))) (inserted-rows (d′′ .well-formed .ensures .right (not-false _ (d′ .if1 .left))) (c .before .before .before .before .before .lower .ensures) (c .before .before .before .before .higher .ensures) (omega arith) (d .starts-below .ensures .1) (d .before .ends-below .ensures) (d .starts-below .ensures .0) (c .before .before .before .before .before .before .before .start-or .ensures) (c .before .before .before .before .before .before .end-or .ensures)) (c .before .before .splice2 .ensures)
+    let w : tie.After-splice2 = search in
+    let h : tie.After-higher = search in
+    let q : tie.After-end-or = search in
+    let j : tie.After-starts-below = search in
+    let s : tie.Else2 = search in
+    let e : tie.Else1 = search in
+    inserted-some (e .before .well-formed .ensures) (e .if1 .left) (s .if2 .left) (q .before .start-or .ensures) (q .end-or .ensures) (j .before .ends-below .ensures) (j .starts-below .ensures) (h .before .lower .ensures) (h .higher .ensures) (w .splice2 .ensures)
 
 pub insert-spec : {M : Type 1} → statement M
 insert-spec =
     tie.close
     (tie.spec
-    well-formed-requires
-    zero-requires
-    same-length
+    (λ c κs. search needs)
+    (λ c κs. search needs)
+    (λ c. search needs)
     returns
     splice-requires
-    same-length-2
+    (λ c. search needs)
     returns-2
-    cast-ends-below
+    (λ c. search needs)
     ends-below-requires
-    cast-starts-below
-    add-starts-below
+    (λ c. search needs)
+    (λ c. search needs)
     starts-below-requires
     start-or-requires
     end-or-requires
-    lower-requires
-    higher-requires
+    (λ c κs. search needs)
+    (λ c κs. search needs)
     splice-requires-2
-    same-length-3
+    (λ c. search needs)
     returns-3)
