@@ -12,7 +12,7 @@ use mir.Val.{Fits}
 use Rattle.tables.specs.Answers.{Says}
 use Rattle.tables.specs.Inner.Rows as inner
 use Rattle.tables.specs.Inner.Rows.{span}
-use Rattle.tables.proofs.Joining.{split}
+use Rattle.varint.proofs.Cases.{split}
 use Rattle.tables.proofs.Spanning.{Links, spanned, length-span, span-on, padded-column}
 use Rattle.ids.specs.Rows.{Row, row, Before, Joined}
 use Rattle.ids.specs.Tables.{three, held, most, room, rowsOf, filled, Table}

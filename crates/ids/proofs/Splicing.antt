@@ -12,7 +12,8 @@ use Rattle.tables.specs.Inner.Rows as inner
 use Rattle.tables.specs.Inner.Rows.{span, combined}
 use Rattle.tables.specs.Inner.Sweep.{Holds}
 use Rattle.tables.specs.Inner.Edit.{Plain, Parted, starts, ends, Starting, Ending}
-use Rattle.tables.proofs.Joining.{split, piece, row-is}
+use Rattle.varint.proofs.Cases.{split}
+use Rattle.tables.proofs.Joining.{piece, row-is}
 use Rattle.tables.proofs.Copying.{Copied}
 use Rattle.tables.proofs.Spanning.{length-span, span-same}
 use Rattle.tables.proofs.Inserting.{inserted, range-one}

@@ -14,7 +14,8 @@ use Rattle.tables.specs.Inner.Rows as inner
 use Rattle.tables.specs.Inner.Rows.{combined, union, span}
 use Rattle.tables.specs.Inner.Sweep as sweep
 use Rattle.tables.specs.Inner.Edit.{range, Parted, starts, ends, Starting, Ending, Moved}
-use Rattle.tables.proofs.Joining.{split, piece}
+use Rattle.varint.proofs.Cases.{split}
+use Rattle.tables.proofs.Joining.{piece}
 use Rattle.tables.proofs.Spanning.{length-span}
 use Rattle.tables.proofs.Sets.{union-means}
 use Rattle.tables.proofs.Inserting.{inserted, unchanged, range-one, unit-union, union-keeps}

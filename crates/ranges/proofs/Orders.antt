@@ -8,9 +8,9 @@ use native.Mathlib.Omega.{arith}
 use lib.ListN.{length}
 use Rattle.varint.specs.declared.Refusal.the-variants.{Full}
 use Rattle.tables.specs.declared.Made.the-variants as made
-use Rattle.tables.proofs.Joining.{split}
 use Rattle.ranges.specs.Rows.{Row, row, Holds}
 use Rattle.ranges.specs.Tables.{rows, flat, most, After, done, full, FromRanges}
+use Rattle.varint.proofs.Cases.{split}
 use Rattle.ranges.proofs.Plain.{table-one}
 
 abbrev pub apart : List ℕ

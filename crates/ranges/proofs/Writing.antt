@@ -13,7 +13,7 @@ use Rattle.tables.specs.declared.Made.the-variants as made
 use Rattle.tables.specs.Inner.Rows as inner
 use Rattle.tables.specs.Inner.Rows.{combined}
 use Rattle.tables.specs.Inner.Sweep.{Holds}
-use Rattle.tables.proofs.Joining.{split}
+use Rattle.varint.proofs.Cases.{split}
 use Rattle.tables.proofs.Spanning.{length-span}
 use Rattle.tables.proofs.Pushing.{holds-room}
 use Rattle.tables.proofs.Sets.{Means}

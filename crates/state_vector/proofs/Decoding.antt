@@ -16,6 +16,7 @@ use Rattle.varint.specs.declared.ReadU32.{ReadU32}
 use Rattle.varint.specs.declared.ReadU32.the-variants as u32
 use Rattle.varint.specs.declared.ReadU64.{ReadU64}
 use Rattle.varint.specs.declared.ReadU64.the-variants as u64
+use Rattle.varint.proofs.Cases.{same-or-not}
 use Rattle.varint.proofs.Chaining.{done64, refused64, done32, refused32}
 use Rattle.state_vector.specs.Rows.{Row, row, In, at, Rising, VectorOf}
 use Rattle.state_vector.specs.Vectors.{Slices, held, rowsOf, most, Table, filled}
@@ -24,7 +25,7 @@ use Rattle.tables.specs.Inner.Rows.{span}
 use Rattle.state_vector.specs.Inner.{rowAt, put, Holds, Reads, all, none}
 use Rattle.state_vector.specs.declared.Decoded.{Decoded}
 use Rattle.state_vector.specs.declared.Decoded.the-variants as decoded
-use Rattle.state_vector.proofs.Looking.{look, look-here, look-past, same-or-not, at-look, in-look, look-in, look-put-same, look-put-other, put-rising, length-put-new, length-put-old}
+use Rattle.state_vector.proofs.Looking.{look, look-here, look-past, at-look, in-look, look-in, look-put-same, look-put-other, put-rising, length-put-new, length-put-old}
 use Rattle.tables.proofs.Spanning.{length-span}
 use Rattle.state_vector.proofs.Spanning.{rows-span}
 use Rattle.state_vector.proofs.Storing.{filled-same}
