@@ -1,6 +1,6 @@
 -- The order matters to `from_ranges`: 0..1, 4..5, 1..4 and 0..1, 1..4, 4..5 end in the same table, 0..5. With room for one row the first
 -- order is FULL, for after two of its ranges there are two rows, and the second is done. Assumes nothing.
-use mathlib.Core.Logic.{_⊎_, inl, inr, ⊎-elim}
+use mathlib.Core.Logic.{inl, inr, ⊎-elim}
 use mathlib.Core.Path.{refl, subst}
 use mathlib.Core.List.{List, [], _∷_}
 use Prim.Native.Nat.{ℕ, zero, suc, _≤_}
