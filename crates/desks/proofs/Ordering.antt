@@ -202,10 +202,10 @@ most-spare : (n : ℕ) → n ≤ rowLimit → most (spare n) ≡ n
 most-spare n h = simp length-replicate (omega arith)
 
 abbrev kept : List Row → ℕ → Held
-kept u n = record { slices = filled u (spare n); count = length u }
+kept u n = record { slices = filled (spare n) u; count = length u }
 
 inserted : (r : Row) (t : List Row) (f : Front r t) (n : ℕ) → Joined t → length (f .list) ≤ n → n ≤ rowLimit
-    → Inserted (kept t n) r (spare n) (filled (f .list) (spare n)) (Rows (length (f .list)))
+    → Inserted (kept t n) r (spare n) (filled (spare n) (f .list)) (Rows (length (f .list)))
 inserted r t f n j l m =
     let e : most (spare n) ≡ n = most-spare n m in
     done (f .list) (table-filled t (spare n) j (rw e (omega (arith, f .longer))))

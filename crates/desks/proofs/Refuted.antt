@@ -35,7 +35,7 @@ acknowledging = with-merge (λ a b. first-only (eqb (a .count) 0) a b)
 
 -- "a merge that always says FULL": each desk holds what was accepted there, so it is `Answers` that excludes this one
 abbrev refusing : Routines
-refusing = with-merge (λ a b o out r. (r ≡ Refused Full) × (out ≡ filled [] o))
+refusing = with-merge (λ a b o out r. (r ≡ Refused Full) × (out ≡ filled o []))
 
 -- a merge that allows no answer: each desk holds what was accepted there, so it is `GoesOn` that excludes this one
 abbrev silent : Routines

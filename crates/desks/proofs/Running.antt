@@ -35,7 +35,7 @@ none h e =
 left-good : (l : List Row) (o out : Slices) (n : ℕ) → Left (TableOf (Holds l)) o out n → Good (record { slices = out; count = n }) l
 left-good l o out n h =
     let t : List Row = h .table in
-    let p : _≡_ {A = Held} (record { slices = filled t o; count = length t }) (record { slices = out; count = n }) = λ i. record { slices = sym (h .fills) i; count = sym (h .counted) i } in
+    let p : _≡_ {A = Held} (record { slices = filled o t; count = length t }) (record { slices = out; count = n }) = λ i. record { slices = sym (h .fills) i; count = sym (h .counted) i } in
     subst (λ (x : Held). Good x l) p
     (record { table = table-filled t o (h .holds .0) (h .fit); ids = λ c k. subst⁻¹ (λ (u : List Row). Holds u c k ↔ Holds l c k) (rows-filled t o) (h .holds .1 c k) })
 

@@ -43,7 +43,7 @@ no-malformed n m = go (leb n m) where
 
 -- a call whose input tables are well formed, and whose right result is `right`
 abbrev pub Brings : (List Row → Type 0) → Slices → Slices → Made → Type 0
-Brings right o out a = Gives (Unit {0}) right (most o) (λ t. filled t o) out (saidMade a)
+Brings right o out a = Gives (Unit {0}) right (most o) (filled o) out (saidMade a)
 
 pub brings-of : {ok : Type 0} {right right′ : List Row → Type 0} {m : ℕ} {fill : List Row → Slices} {out : Slices} {a : Answer ℕ} → ok
     → ((t : List Row) → right t → right′ t) → Gives ok right m fill out a → Gives (Unit {0}) right′ m fill out a
@@ -63,7 +63,7 @@ pub record Left (right : List Row → Type 0) (o out : Slices) (n : ℕ) : Type 
   pub holds : right table
   pub fit : length table ≤ most o
   pub counted : n ≡ length table
-  pub fills : out ≡ filled table o
+  pub fills : out ≡ filled o table
 
 pub brings-left : {right : List Row → Type 0} (o out : Slices) (n : ℕ) → Brings right o out (Rows n) → Left right o out n
 brings-left o out n (done t _ r l e p) = record { table = t; holds = r; fit = l; counted = value-of e; fills = p }

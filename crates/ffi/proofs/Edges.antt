@@ -86,7 +86,7 @@ pub ranges-get-over : (l : List ℕ) (n i : ℕ) (r : boundary.Row) → (length 
 ranges-get-over l n i r h c = malformed-asked of-ranges.saidFound foundRow r (ranges-over l n h) c
 
 pub ids-merge-over : (a : of-ids.Held) (cs ss es : List ℕ) (n : ℕ) (o out : of-ids.Slices) (r : Rows) → (length cs < n) ⊎ (length ss < n) ⊎ (length es < n) ⊎ (rowLimit < n)
-    → Crosses (of-ids.Merged a (of-ids.held cs ss es n) o out) asRows r → (r ≡ record { no = 5; count = 0 }) × (out ≡ of-ids.filled [] o)
+    → Crosses (of-ids.Merged a (of-ids.held cs ss es n) o out) asRows r → (r ≡ record { no = 5; count = 0 }) × (out ≡ of-ids.filled o [])
 ids-merge-over a cs ss es n o out r h c = malformed-made r (λ t. ids-over cs ss es n h (t .1)) c
 
 pub vector-compare-over : (a : of-vectors.Held) (cs ks : List ℕ) (n : ℕ) (r : Verdict) → (length cs < n) ⊎ (length ks < n) ⊎ (vectorLimit < n)
@@ -119,9 +119,9 @@ module _ (c d s k e : ℕ) (o out : of-ids.Slices) (r : Rows) where
   rows-apart = row c s k ∷ row d k e ∷ []
 
   pub clients-apart : c < d → s < k → k < e → 2 ≤ of-ids.most o → Crosses (of-ids.Inserted (of-ids.held (c ∷ []) (s ∷ []) (k ∷ []) 1) (row d k e) o out) asRows r
-      → (r ≡ record { no = 0; count = 2 }) × (out ≡ of-ids.filled rows-apart o)
+      → (r ≡ record { no = 0; count = 2 }) × (out ≡ of-ids.filled o rows-apart)
   clients-apart f g h m x =
-      ids-one o out (of-ids.filled rows-apart o) r (record { no = 0; count = 2 }) x
+      ids-one o out (of-ids.filled o rows-apart) r (record { no = 0; count = 2 }) x
       (record {
         answer = made.Rows 2;
         kept = done rows-apart (lit≤ tt, (g, tt, tt)) (
@@ -159,10 +159,10 @@ module _ (bs : List ℕ) (at : ℕ) (h : length bs ≤ at) where
   read-i8-past = read-signed-past (λ a. fitting 8 at (plain a)) refl
 
   pub decode-past : (o out : of-vectors.Slices) (r : Vector) → Crosses (λ d. bytes.Decodes bs at o out (bytes.saidDecoded at d)) (asVector at) r
-      → (r ≡ record { no = 1; count = 0; next = at }) × (out ≡ of-vectors.filled [] o)
+      → (r ≡ record { no = 1; count = 0; next = at }) × (out ≡ of-vectors.filled o [])
   unfolding bytes.vectorAt andThen
   decode-past o out r x =
-      crossed (vectors.decoded-one bs at o) out (of-vectors.filled [] o) r (record { no = 1; count = 0; next = at }) x
+      crossed (vectors.decoded-one bs at o) out (of-vectors.filled o []) r (record { no = 1; count = 0; next = at }) x
       (record { answer = decoded.Refused End; kept = bytes.refused 1 (rw (number-past 32)) refl refl; same = refl })
 
 -- more bytes than remain from the place, or a place past the end: FULL, the buffer and the place as given

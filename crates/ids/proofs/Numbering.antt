@@ -49,13 +49,13 @@ length-rows n cs ss es f = ap length (rows-span n cs ss es f) ∙ length-span (i
 -- three columns filled one by one are the slices filled by rows
 pub filled-columns : (n : ℕ) (cs ss es xs ys zs xs′ ys′ zs′ : List ℕ) → Fit n cs ss es
     → xs′ ≡ take n cs ++ replicate (length xs - n) 0 → ys′ ≡ take n ss ++ replicate (length ys - n) 0 → zs′ ≡ take n es ++ replicate (length zs - n) 0
-    → three xs′ ys′ zs′ ≡ filled (rowsOf n cs ss es) (three xs ys zs)
+    → three xs′ ys′ zs′ ≡ filled (three xs ys zs) (rowsOf n cs ss es)
 filled-columns n cs ss es xs ys zs xs′ ys′ zs′ f p q u =
     let a = p ∙ padded-column (idAt cs ss es) (λ (r : Row). r .client) cs n (length xs) (λ j. refl) (f .one) in
     let b = q ∙ padded-column (idAt cs ss es) (λ (r : Row). r .start) ss n (length ys) (λ j. refl) (f .two) in
     let d = u ∙ padded-column (idAt cs ss es) (λ (r : Row). r .end) es n (length zs) (λ j. refl) (f .three′) in
-    let t : three xs′ ys′ zs′ ≡ filled (span (idAt cs ss es) 0 n) (three xs ys zs) = λ i. record { clients = a i; starts = b i; ends = d i } in
-    t ∙ ap (λ (l : List Row). filled l (three xs ys zs)) (sym (rows-span n cs ss es f))
+    let t : three xs′ ys′ zs′ ≡ filled (three xs ys zs) (span (idAt cs ss es) 0 n) = λ i. record { clients = a i; starts = b i; ends = d i } in
+    t ∙ ap (filled (three xs ys zs)) (sym (rows-span n cs ss es f))
 
 -- ## The rule of id tables, index by index
 

@@ -18,16 +18,16 @@ use Rattle.ids.proofs.Determined.{writes-one}
 -- ## Every routine that writes a table
 
 -- the columns of an output
-abbrev clients : (o : Slices) → Column (λ t. filled t o)
+abbrev clients : (o : Slices) → Column (filled o)
 clients o = column (λ (s : Slices). s .clients) (λ (r : Row). r .client) (length (o .clients)) (λ t. refl)
 
-abbrev starts : (o : Slices) → Column (λ t. filled t o)
+abbrev starts : (o : Slices) → Column (filled o)
 starts o = column (λ (s : Slices). s .starts) (λ (r : Row). r .start) (length (o .starts)) (λ t. refl)
 
-abbrev ends : (o : Slices) → Column (λ t. filled t o)
+abbrev ends : (o : Slices) → Column (filled o)
 ends o = column (λ (s : Slices). s .ends) (λ (r : Row). r .end) (length (o .ends)) (λ t. refl)
 
-filled-tell : (o : Slices) → Tell (λ t. filled t o)
+filled-tell : (o : Slices) → Tell (filled o)
 filled-tell o t u h e =
     columns-tell ((λ (r : Row). r .client) ∷ (λ (r : Row). r .start) ∷ (λ (r : Row). r .end) ∷ [])
     (λ r s f. λ i. record { client = f .0 i; start = f .1 .0 i; end = f .1 .1 .0 i })
@@ -42,7 +42,7 @@ pub zeroed : {ok : Type 0} {right : List Row → Type 0} (o : Slices) {out : Sli
 zeroed o n i h g = let k : 1 * n ≤ i = omega arith in (column-zeroed (clients o) n i k g, column-zeroed (starts o) n i k g, column-zeroed (ends o) n i k g)
 
 -- rows that are not joined
-pub not-joined : {ok : Type 0} {ids : ℕ → ℕ → Type 0} (o : Slices) (t : List Row) → (Joined t → ⊥) → Writes ok (TableOf ids) o (filled t o) (made.Rows (length t)) → ⊥
+pub not-joined : {ok : Type 0} {ids : ℕ → ℕ → Type 0} (o : Slices) (t : List Row) → (Joined t → ⊥) → Writes ok (TableOf ids) o (filled o t) (made.Rows (length t)) → ⊥
 not-joined o t n h = n (handed-out (filled-tell o) t refl refl h .0)
 
 abbrev none : Slices
@@ -51,7 +51,7 @@ none = three [] [] []
 -- shown by an input whose result is empty, one whose result has clock 0 of client 7, and one whose left table is wrong there
 module _ {I : Type 0} {P : I → Slices → Slices → Made → Type 0} {left : I → List Row} (ok : I → Type 0) (ids : I → ℕ → ℕ → Type 0)
     (is : (i : I) (o out : Slices) (r : Made) → P i o out r → Writes (ok i) (TableOf (ids i)) o out r) where
-  shown : (empty some other : I) → ((c k : ℕ) → ids empty c k → ⊥) → ids some 7 0 → (Holds (left other) 7 0 ↔ ids other 7 0 → ⊥) → Shown most (λ o t. filled t o) P left
+  shown : (empty some other : I) → ((c k : ℕ) → ids empty c k → ⊥) → ids some 7 0 → (Holds (left other) 7 0 ↔ ids other 7 0 → ⊥) → Shown most filled P left
   shown empty some other e f g =
       record {
         tell = filled-tell;
@@ -85,24 +85,24 @@ within = (refl, lit≤ tt, lit≤ tt)
 empty-range : (c k : ℕ) → Within (row 7 0 0) c k → ⊥
 empty-range c k h = omega arith
 
-pub inserting : Shown most (λ o t. filled t o) (λ (i : Held × Row). Inserted (i .0) (i .1)) (λ i. rows (i .0))
+pub inserting : Shown most filled (λ (i : Held × Row). Inserted (i .0) (i .1)) (λ i. rows (i .0))
 inserting = shown (λ i. Table (i .0)) (λ i c k. Holds (rows (i .0)) c k ⊎ Within (i .1) c k) (λ i o out r p. p)
     (nothing, row 7 0 0) (nothing, row 7 0 1) (nothing, row 7 0 1) (λ c k. ⊎-elim (λ h. h) (empty-range c k)) (inr within) (λ h. h .1 (inr within))
 
-pub merging : Shown most (λ o t. filled t o) (λ (i : Held × Held). Merged (i .0) (i .1)) (λ i. rows (i .0))
+pub merging : Shown most filled (λ (i : Held × Held). Merged (i .0) (i .1)) (λ i. rows (i .0))
 merging = shown (λ i. Table (i .0) × Table (i .1)) (λ i. union (rows (i .0)) (rows (i .1))) (λ i o out r p. p)
     (nothing, nothing) (nothing, some) (nothing, some) (λ c k. ⊎-elim (λ h. h) (λ h. h)) (inr (inl within)) (λ h. h .1 (inr (inl within)))
 
-pub diffing : Shown most (λ o t. filled t o) (λ (i : Held × Held). Diffed (i .0) (i .1)) (λ i. rows (i .0))
+pub diffing : Shown most filled (λ (i : Held × Held). Diffed (i .0) (i .1)) (λ i. rows (i .0))
 diffing = shown (λ i. Table (i .0) × Table (i .1)) (λ i. difference (rows (i .0)) (rows (i .1))) (λ i o out r p. p)
     (nothing, nothing) (some, nothing) (some, some) (λ c k h. h .0) (inl within, λ h. h) (λ h. h .0 (inl within) .1 (inl within))
 
-pub intersecting : Shown most (λ o t. filled t o) (λ (i : Held × Held). Intersected (i .0) (i .1)) (λ i. rows (i .0))
+pub intersecting : Shown most filled (λ (i : Held × Held). Intersected (i .0) (i .1)) (λ i. rows (i .0))
 intersecting = shown (λ i. Table (i .0) × Table (i .1)) (λ i. intersection (rows (i .0)) (rows (i .1))) (λ i o out r p. p)
     (nothing, nothing) (some, some) (some, nothing) (λ c k h. h .0) (inl within, inl within) (λ h. h .0 (inl within) .1)
 
 -- of a capture: an empty table for the one that it copies
-pub capturing : Shown most (λ o t. filled t o) Captured (λ i. [])
+pub capturing : Shown most filled Captured (λ i. [])
 capturing =
     record {
       tell = filled-tell;
@@ -132,14 +132,14 @@ abbrev one : Slices
 one = three (0 ∷ []) (0 ∷ []) (0 ∷ [])
 
 -- nothing without one row is nothing, and one row without nothing is the row: sides swapped, or the intersection or the union in its place, differ
-nothing-left : Diffed nothing some one (filled [] one) (made.Rows 0)
+nothing-left : Diffed nothing some one (filled one []) (made.Rows 0)
 nothing-left = done [] ((lit≤ tt, tt), (lit≤ tt, (lit≤ tt, tt, tt))) (tt, λ c k. ((λ h. absurd h), (λ h. h .0))) (lit≤ tt) refl refl
 
 all-left : Diffed some nothing one (three (7 ∷ []) (0 ∷ []) (1 ∷ [])) (made.Rows 1)
 all-left =
     done (row 7 0 1 ∷ []) ((lit≤ tt, (lit≤ tt, tt, tt)), (lit≤ tt, tt)) ((lit≤ tt, tt, tt), λ c k. ((λ h. (h, λ z. z)), (λ h. h .0))) (lit≤ tt) refl refl
 
-nothing-shared : Intersected some nothing one (filled [] one) (made.Rows 0)
+nothing-shared : Intersected some nothing one (filled one []) (made.Rows 0)
 nothing-shared = done [] ((lit≤ tt, (lit≤ tt, tt, tt)), (lit≤ tt, tt)) (tt, λ c k. ((λ h. absurd h), (λ h. h .1))) (lit≤ tt) refl refl
 
 differ : {A : Type 0} → made.Rows 0 ≡ made.Rows 1 → A
@@ -182,8 +182,8 @@ Left l = (i : ℕ) × (0 < getD l i 0)
 abbrev Leaves : Slices → Answer ℕ → Type 0
 Leaves out a = (0 < a .no) × ((0 < a .value) ⊎ (Left (out .clients) ⊎ (Left (out .starts) ⊎ Left (out .ends))))
 
-pub leaves-none : {ok : Type 0} {right : List Row → Type 0} (o : Slices) {out : Slices} {a : Answer ℕ} → Gives ok right (most o) (λ t. filled t o) out a → Leaves out a → ⊥
+pub leaves-none : {ok : Type 0} {right : List Row → Type 0} (o : Slices) {out : Slices} {a : Answer ℕ} → Gives ok right (most o) (filled o) out a → Leaves out a → ⊥
 leaves-none o {out} {a} g (w, l) = ⊎-elim (λ h. omega (arith, e .0)) (⊎-elim (column-left (clients o) (e .1)) (⊎-elim (column-left (starts o) (e .1)) (column-left (ends o) (e .1)))) l
   where
-    e : (a .value ≡ 0) × (out ≡ filled [] o)
+    e : (a .value ≡ 0) × (out ≡ filled o [])
     e = refusal-leaves (λ z. omega arith) g

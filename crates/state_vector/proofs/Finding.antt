@@ -98,7 +98,7 @@ length-put-le : (r : Row) (t : List Row) → Rising t → length t ≤ length (p
 length-put-le r t g = ⊎-elim (λ (e : look t (r .client) ≡ 0). omega (arith, length-put-new r t g e)) (λ n. omega (arith, length-put-old r t g (omega arith))) (same-or-not (look t (r .client)) 0)
 
 module _ {cs ks : List ℕ} {n : ℕ} (t : Table (held cs ks n)) where
-  pub set-over : (o out : Slices) (c k m : ℕ) → m ≡ most o → m < n → out ≡ filled [] o → Writes (Table (held cs ks n)) (Set (rowsOf n cs ks) c k) o out (made.Refused Full)
+  pub set-over : (o out : Slices) (c k m : ℕ) → m ≡ most o → m < n → out ≡ filled o [] → Writes (Table (held cs ks n)) (Set (rowsOf n cs ks) c k) o out (made.Refused Full)
   set-over o out c k m e h f =
       full (put (row c k) (rowsOf n cs ks)) t (set-right (rowsOf n cs ks) c k (t .rising))
       (omega (arith, length-put-le (row c k) (rowsOf n cs ks) (t .rising), length-rows t)) refl f

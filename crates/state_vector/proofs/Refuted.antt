@@ -38,13 +38,13 @@ use Rattle.state_vector.proofs.RoundTrip.{stores, Fitting, vector-read}
 -- ## Every routine that writes a vector
 
 -- the columns of an output
-abbrev clients : (o : Slices) → Column (λ t. filled t o)
+abbrev clients : (o : Slices) → Column (filled o)
 clients o = column (λ (s : Slices). s .clients) (λ (r : Row). r .client) (length (o .clients)) (λ t. refl)
 
-abbrev clocks : (o : Slices) → Column (λ t. filled t o)
+abbrev clocks : (o : Slices) → Column (filled o)
 clocks o = column (λ (s : Slices). s .clocks) (λ (r : Row). r .clock) (length (o .clocks)) (λ t. refl)
 
-filled-tell : (o : Slices) → Tell (λ t. filled t o)
+filled-tell : (o : Slices) → Tell (filled o)
 filled-tell o t u h e =
     columns-tell ((λ (r : Row). r .client) ∷ (λ (r : Row). r .clock) ∷ []) (λ r s f. λ i. record { client = f .0 i; clock = f .1 .0 i })
     t u h (column-tell (clients o) t u h e, (column-tell (clocks o) t u h e, tt))
@@ -77,7 +77,7 @@ only-one f (r ∷ s ∷ t) v = absurd (omega (arith, v .rising .0, f (r .client)
 module _ {I : Type 0} {P : I → Slices → Slices → Made → Type 0} {left : I → List Row} (ok : I → Type 0) (clients : I → ℕ → Type 0) (clock : I → ℕ → ℕ)
     (is : (i : I) (o out : Slices) (r : Made) → P i o out r → Writes (ok i) (VectorOf (clients i) (clock i)) o out r) where
   shown : (small some none other : I) → ((c : ℕ) → clients small c → c ≡ 1) → clients some 1 → (clients none 1 → ⊥) → clients other 1 → (In (left other) 1 → ⊥)
-      → Shown most (λ o t. filled t o) P left
+      → Shown most filled P left
   shown small some none other f a b c d =
       record {
         tell = filled-tell;
@@ -97,15 +97,15 @@ module _ {I : Type 0} {P : I → Slices → Slices → Made → Type 0} {left : 
 abbrev Setting : Type 0
 Setting = Held × ℕ × ℕ
 
-pub setting-min : Shown most (λ o t. filled t o) (λ (i : Setting). MinSet (i .0) (i .1) (i .2)) (λ i. rows (i .0))
+pub setting-min : Shown most filled (λ (i : Setting). MinSet (i .0) (i .1) (i .2)) (λ i. rows (i .0))
 setting-min = shown (λ i. Table (i .0)) (λ i d. In (rows (i .0)) d ⊎ (d ≡ i .1)) (λ i d. cond (eqb d (i .1)) (smaller (rows (i .0)) (i .1) (i .2)) (at (rows (i .0)) d)) (λ i o out r p. p)
     (empty, 1, 0) (empty, 1, 0) (empty, 2, 0) (empty, 1, 0) (λ d. ⊎-elim (λ h. absurd h) (λ e. e)) (inr refl) (⊎-elim (λ h. h) (λ e. omega arith)) (inr refl) (λ h. h)
 
-pub setting-max : Shown most (λ o t. filled t o) (λ (i : Setting). MaxSet (i .0) (i .1) (i .2)) (λ i. rows (i .0))
+pub setting-max : Shown most filled (λ (i : Setting). MaxSet (i .0) (i .1) (i .2)) (λ i. rows (i .0))
 setting-max = shown (λ i. Table (i .0)) (λ i d. In (rows (i .0)) d ⊎ (d ≡ i .1)) (λ i d. cond (eqb d (i .1)) (max (at (rows (i .0)) (i .1)) (i .2)) (at (rows (i .0)) d)) (λ i o out r p. p)
     (empty, 1, 0) (empty, 1, 0) (empty, 2, 0) (empty, 1, 0) (λ d. ⊎-elim (λ h. absurd h) (λ e. e)) (inr refl) (⊎-elim (λ h. h) (λ e. omega arith)) (inr refl) (λ h. h)
 
-pub merging : Shown most (λ o t. filled t o) (λ (i : Held × Held). Merged (i .0) (i .1)) (λ i. rows (i .0))
+pub merging : Shown most filled (λ (i : Held × Held). Merged (i .0) (i .1)) (λ i. rows (i .0))
 merging = shown (λ i. Table (i .0) × Table (i .1)) (λ i c. In (rows (i .0)) c ⊎ In (rows (i .1)) c) (λ i c. max (at (rows (i .0)) c) (at (rows (i .1)) c)) (λ i o out r p. p)
     (empty, empty) (empty, one 1 1) (empty, empty) (empty, one 1 1) (λ d. ⊎-elim (λ h. absurd h) (λ h. absurd h)) (inr (inl refl)) (⊎-elim (λ h. h) (λ h. h)) (inr (inl refl)) (λ h. h)
 
@@ -144,12 +144,12 @@ absent-zero c k h =
 -- ## What a refusal leaves
 
 -- for decoding: the place too
-pub refusal-decoded : {bs : List ℕ} {place : ℕ} {o out : Slices} {d : Decoding} → Decodes bs place o out d → (d .no ≡ 0 → ⊥) → (d .count ≡ 0) × (d .place ≡ place) × (out ≡ filled [] o)
+pub refusal-decoded : {bs : List ℕ} {place : ℕ} {o out : Slices} {d : Decoding} → Decodes bs place o out d → (d .no ≡ 0 → ⊥) → (d .count ≡ 0) × (d .place ≡ place) × (out ≡ filled o [])
 refusal-decoded (bytes.done got t p e v f g) n = absurd (n (ap (λ (x : Decoding). x .no) f))
 refusal-decoded (bytes.refused m e f g) n = (ap (λ (x : Decoding). x .count) f, ap (λ (x : Decoding). x .place) f, g)
 
 -- every element of either slice, of whatever lengths
-all-zero : (o : Slices) {out : Slices} → out ≡ filled [] o → (j : ℕ) → Zero j out
+all-zero : (o : Slices) {out : Slices} → out ≡ filled o [] → (j : ℕ) → Zero j out
 all-zero o e j = (column-behind (clients o) [] j (omega arith) e, column-behind (clocks o) [] j (omega arith) e)
 
 refusing : (e : Refusal) → noOf e ≡ 0 → ⊥

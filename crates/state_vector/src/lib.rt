@@ -285,7 +285,7 @@ fn most_rows(a: usize, b: usize) -> usize
 
 // Every element becomes zero.
 fn clear(to_clients: &mut [u64], to_clocks: &mut [u32])
-    ensures { λ r. ⌜ two (now («to_clients» .exit)) (now («to_clocks» .exit)) ≡ filled [] (two (now («to_clients» .entry)) (now («to_clocks» .entry))) ⌝ }
+    ensures { λ r. ⌜ two (now («to_clients» .exit)) (now («to_clocks» .exit)) ≡ filled (two (now («to_clients» .entry)) (now («to_clocks» .entry))) [] ⌝ }
 {
     tables::zero_wide(to_clients);
     tables::zero(to_clocks);
@@ -308,7 +308,7 @@ fn close(to_clients: &mut [u64], to_clocks: &mut [u32], most: usize, k: usize) -
 fn zero_rest(to_clients: &mut [u64], to_clocks: &mut [u32], k: usize)
     requires { ⌜ k ≤ room (two (now «to_clients») (now «to_clocks»)) ⌝ }
     ensures { λ r. ⌜ two (now («to_clients» .exit)) (now («to_clocks» .exit))
-        ≡ filled (span (rowAt (two (now («to_clients» .entry)) (now («to_clocks» .entry)))) 0 k) (two (now («to_clients» .entry)) (now («to_clocks» .entry))) ⌝ }
+        ≡ filled (two (now («to_clients» .entry)) (now («to_clocks» .entry))) (span (rowAt (two (now («to_clients» .entry)) (now («to_clocks» .entry)))) 0 k) ⌝ }
 {
     tables::zero_wide(&mut to_clients[k..]);
     tables::zero(&mut to_clocks[k..]);
