@@ -29,4 +29,4 @@ most-filled t o h =
 
 -- so it is a well formed table
 pub table-filled : (t : List Row) (o : Slices) → Joined t → length t ≤ most o → Table (record { slices = filled o t; count = length t })
-table-filled t o j h = (rw (most-filled t o h) h, subst Joined (sym (rows-filled t o)) j)
+table-filled t o j h = record { few = rw (most-filled t o h) h; joined = subst Joined (sym (rows-filled t o)) j }

@@ -66,14 +66,14 @@ malformed-asked said show r n c = sym (c .same) ∙ ap (λ (a : Answer _). show 
 
 -- "n at most 1,024 and at most half the slice's length"; "the count at most each slice's length"
 pub ranges-over : (l : List ℕ) (n : ℕ) → (length l < 2 * n) ⊎ (rowLimit < n) → of-ranges.Table l n → ⊥
-ranges-over l n (inl h) t = omega (arith, t .0)
-ranges-over l n (inr h) t = omega (arith, t .0)
+ranges-over l n (inl h) t = omega (arith, t .few)
+ranges-over l n (inr h) t = omega (arith, t .few)
 
 pub ids-over : (cs ss es : List ℕ) (n : ℕ) → (length cs < n) ⊎ (length ss < n) ⊎ (length es < n) ⊎ (rowLimit < n) → of-ids.Table (of-ids.held cs ss es n) → ⊥
-ids-over cs ss es n (inl h) t = omega (arith, t .0)
-ids-over cs ss es n (inr (inl h)) t = omega (arith, t .0)
-ids-over cs ss es n (inr (inr (inl h))) t = omega (arith, t .0)
-ids-over cs ss es n (inr (inr (inr h))) t = omega (arith, t .0)
+ids-over cs ss es n (inl h) t = omega (arith, t .few)
+ids-over cs ss es n (inr (inl h)) t = omega (arith, t .few)
+ids-over cs ss es n (inr (inr (inl h))) t = omega (arith, t .few)
+ids-over cs ss es n (inr (inr (inr h))) t = omega (arith, t .few)
 
 pub vectors-over : (cs ks : List ℕ) (n : ℕ) → (length cs < n) ⊎ (length ks < n) ⊎ (vectorLimit < n) → of-vectors.Table (of-vectors.held cs ks n) → ⊥
 vectors-over cs ks n (inl h) t = omega (arith, t .few)
@@ -124,7 +124,7 @@ module _ (c d s k e : ℕ) (o out : of-ids.Slices) (r : Rows) where
       ids-one o out (of-ids.filled o rows-apart) r (record { no = 0; count = 2 }) x
       (record {
         answer = made.Rows 2;
-        kept = done rows-apart (lit≤ tt, (g, tt, tt)) (
+        kept = done rows-apart (record { few = lit≤ tt; joined = (g, tt, tt) }) (
           (g, inl f, (h, tt, tt)),
           λ c k. (⊎-elim (λ y. inl (inl y)) (⊎-elim (λ y. inr y) (λ y. absurd y)), ⊎-elim (⊎-elim (λ y. inl y) (λ y. absurd y)) (λ y. inr (inl y))),
         ) m refl refl;

@@ -104,13 +104,16 @@ module _ (cs ss es : List ℕ) (f : Narrow ss) (g : Narrow es) where
 
   pub table-up : (n : ℕ) → IdTable cs ss es n → Table (held cs ss es n)
   table-up n t =
-      (t .few, subst Joined (sym (rows-span n cs ss es (fit n cs ss es (omega (arith, t .few))))) (joined-up 0 n (λ j h. t .filled j (omega arith)) (λ j h. t .apart j (omega arith))))
+      record {
+        few = t .few;
+        joined = subst Joined (sym (rows-span n cs ss es (fit n cs ss es (omega (arith, t .few))))) (joined-up 0 n (λ j h. t .filled j (omega arith)) (λ j h. t .apart j (omega arith)));
+      }
 
   pub table-down : (n : ℕ) → Table (held cs ss es n) → IdTable cs ss es n
   table-down n t =
-      let p : Joined (span (idAt cs ss es) 0 n) = subst Joined (rows-span n cs ss es (fit n cs ss es (omega (arith, t .0)))) (t .1) in
+      let p : Joined (span (idAt cs ss es) 0 n) = subst Joined (rows-span n cs ss es (fit n cs ss es (omega (arith, t .few)))) (t .joined) in
       record {
-        few = t .0;
+        few = t .few;
         filled = λ j h. filled-down 0 n p j (omega arith) (omega arith);
         apart = λ j h. apart-down 0 n p j (omega arith) (omega arith);
       }
@@ -127,7 +130,7 @@ module _ (cs ss es : List ℕ) (f : Narrow ss) (g : Narrow es) where
 
 pub unchecked : (cs ss es : List ℕ) (n : ℕ) → most (three cs ss es) < n → Checked cs ss es n false
 unchecked cs ss es n h =
-    record { says = record { right = λ e. absurd (false≢true e); wrong = λ _ t. omega (arith, t .0) }; table = λ e. absurd (false≢true e) }
+    record { says = record { right = λ e. absurd (false≢true e); wrong = λ _ t. omega (arith, t .few) }; table = λ e. absurd (false≢true e) }
 
 -- ## The rows of an id table are joined
 

@@ -132,15 +132,22 @@ abbrev one : Slices
 one = three (0 ∷ []) (0 ∷ []) (0 ∷ [])
 
 -- nothing without one row is nothing, and one row without nothing is the row: sides swapped, or the intersection or the union in its place, differ
+-- both are tables
+no-table : Table nothing
+no-table = record { few = lit≤ tt; joined = tt }
+
+some-table : Table some
+some-table = record { few = lit≤ tt; joined = (lit≤ tt, tt, tt) }
+
 nothing-left : Diffed nothing some one (filled one []) (made.Rows 0)
-nothing-left = done [] ((lit≤ tt, tt), (lit≤ tt, (lit≤ tt, tt, tt))) (tt, λ c k. ((λ h. absurd h), (λ h. h .0))) (lit≤ tt) refl refl
+nothing-left = done [] (no-table, some-table) (tt, λ c k. ((λ h. absurd h), (λ h. h .0))) (lit≤ tt) refl refl
 
 all-left : Diffed some nothing one (three (7 ∷ []) (0 ∷ []) (1 ∷ [])) (made.Rows 1)
 all-left =
-    done (row 7 0 1 ∷ []) ((lit≤ tt, (lit≤ tt, tt, tt)), (lit≤ tt, tt)) ((lit≤ tt, tt, tt), λ c k. ((λ h. (h, λ z. z)), (λ h. h .0))) (lit≤ tt) refl refl
+    done (row 7 0 1 ∷ []) (some-table, no-table) ((lit≤ tt, tt, tt), λ c k. ((λ h. (h, λ z. z)), (λ h. h .0))) (lit≤ tt) refl refl
 
 nothing-shared : Intersected some nothing one (filled one []) (made.Rows 0)
-nothing-shared = done [] ((lit≤ tt, (lit≤ tt, tt, tt)), (lit≤ tt, tt)) (tt, λ c k. ((λ h. absurd h), (λ h. h .1))) (lit≤ tt) refl refl
+nothing-shared = done [] (some-table, no-table) (tt, λ c k. ((λ h. absurd h), (λ h. h .1))) (lit≤ tt) refl refl
 
 differ : {A : Type 0} → made.Rows 0 ≡ made.Rows 1 → A
 differ e = absurd (let z : _≡_ {A = ℕ} 0 1 = cc in omega arith)
@@ -162,7 +169,7 @@ two = three (0 ∷ 0 ∷ []) (0 ∷ 0 ∷ []) (0 ∷ 0 ∷ [])
 
 other-client : Inserted some (row 8 1 2) two (three (7 ∷ 8 ∷ []) (0 ∷ 1 ∷ []) (1 ∷ 2 ∷ [])) (made.Rows 2)
 other-client =
-    done (row 7 0 1 ∷ row 8 1 2 ∷ []) (lit≤ tt, (lit≤ tt, tt, tt)) (
+    done (row 7 0 1 ∷ row 8 1 2 ∷ []) some-table (
       (lit≤ tt, inl (lit≤ tt), (lit≤ tt, tt, tt)),
       λ c k. (
         ⊎-elim (λ h. inl (inl h)) (⊎-elim (λ h. inr h) (λ h. absurd h)),

@@ -50,8 +50,9 @@ abbrev pub most : Slices → ℕ
 most o = min rowLimit (room o)
 
 -- well formed: "the count at most each slice's length", "Clients never fall; rows of one client obey the range rule."
-abbrev pub Table : Held → Type 0
-Table h = (h .count ≤ most (h .slices)) × Joined (rows h)
+pub record Table (h : Held) : Type 0 where
+  pub few : h .count ≤ most (h .slices)
+  pub joined : Joined (rows h)
 
 -- "the new table fills the front of the output and every later element of each output slice is zero"
 abbrev pub filled : Slices → List Row → Slices

@@ -129,7 +129,7 @@ module _ {l : List ℕ} {i len : ℕ} {out : List ℕ} {k : ℕ} (g : Grown l i 
   grown-more c d =
       record {
         same = c ∙ g .same;
-        ruled = table-ruled (omega (arith, c, g .same), now .0);
+        ruled = table-ruled (record { few = omega (arith, c, g .same); joined = now .0 });
         after = now;
         fitted = λ m p u q. ⊎-elim (λ z. g .fitted m (omega arith) u q) (λ z. last m (let w : m ≡ i + 1 = omega arith in w) u q) (split m (i + 1));
       }

@@ -117,7 +117,7 @@ removing = shown (λ i. Table (i .0) (i .1)) (λ i. difference (rows (i .0) (i .
 -- "Rows [2..5, 5..7] as input: MALFORMED."
 pub touching : Table (2 ∷ 5 ∷ 5 ∷ 7 ∷ []) 2 → ⊥
 unfolding rows
-touching t = omega (arith, t .1 .1)
+touching t = omega (arith, t .joined .1)
 
 -- `end` taken as the last clock included
 pub end-included : ContainsClock (2 ∷ 5 ∷ []) 1 5 Yes → ⊥

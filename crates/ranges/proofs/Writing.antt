@@ -78,7 +78,10 @@ gives-combined {f} {P} {a} {b} {n} {m} {len} {out} {r} s p q w =
 pub written : (len : ℕ) (t : List Row) → reader.Joined t → length t ≤ most len → Table (filled len t) (length t) × (rows (filled len t) (length t) ≡ t)
 written len t j h =
     let e : rows (filled len t) (length t) ≡ t = read-flat t _ in (
-      (omega (arith, length-append (flat t) (replicate (len - length (flat t)) 0), length-flat t, length-replicate {A = ℕ} (len - length (flat t)) 0), subst (λ (u : List Row). reader.Joined u) (sym e) j),
+      record {
+        few = omega (arith, length-append (flat t) (replicate (len - length (flat t)) 0), length-flat t, length-replicate {A = ℕ} (len - length (flat t)) 0);
+        joined = subst (λ (u : List Row). reader.Joined u) (sym e) j;
+      },
       e,
     )
 

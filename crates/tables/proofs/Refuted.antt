@@ -48,7 +48,7 @@ malformed-asked n (says o e r) = absurd (n o)
 malformed-asked n (refuses m e) = e
 
 -- an element behind the table
-pub padded-behind : (n : ℕ) (l : List ℕ) (i : ℕ) → length l ≤ i → getD (padded n l) i 0 ≡ 0
+padded-behind : (n : ℕ) (l : List ℕ) (i : ℕ) → length l ≤ i → getD (padded n l) i 0 ≡ 0
 padded-behind n l = go (n - length l) l
   where
     go : (k : ℕ) (l : List ℕ) (i : ℕ) → length l ≤ i → getD (l ++ replicate k 0) i 0 ≡ 0
@@ -57,7 +57,7 @@ padded-behind n l = go (n - length l) l
     go k (x ∷ l) (suc i) h = go k l i (omega arith)
 
 -- lists of one length, each in front of zeros
-pub padded-tell : (n : ℕ) (l m : List ℕ) → length l ≡ length m → padded n l ≡ padded n m → l ≡ m
+padded-tell : (n : ℕ) (l m : List ℕ) → length l ≡ length m → padded n l ≡ padded n m → l ≡ m
 padded-tell n l m = go (n - length l) (n - length m) l m
   where
     go : (j k : ℕ) (l m : List ℕ) → length l ≡ length m → l ++ replicate j 0 ≡ m ++ replicate k 0 → l ≡ m
