@@ -66,14 +66,14 @@ malformed-asked said show r n c = sym (c .same) ∙ ap (λ (a : Answer _). show 
 
 -- "n at most 1,024 and at most half the slice's length"; "the count at most each slice's length"
 pub ranges-over : (l : List ℕ) (n : ℕ) → (length l < 2 * n) ⊎ (rowLimit < n) → of-ranges.Table l n → ⊥
-ranges-over l n (inl h) t = omega (arith, t .0)
-ranges-over l n (inr h) t = omega (arith, t .0)
+ranges-over l n (inl h) t = omega (arith, t .few)
+ranges-over l n (inr h) t = omega (arith, t .few)
 
 pub ids-over : (cs ss es : List ℕ) (n : ℕ) → (length cs < n) ⊎ (length ss < n) ⊎ (length es < n) ⊎ (rowLimit < n) → of-ids.Table (of-ids.held cs ss es n) → ⊥
-ids-over cs ss es n (inl h) t = omega (arith, t .0)
-ids-over cs ss es n (inr (inl h)) t = omega (arith, t .0)
-ids-over cs ss es n (inr (inr (inl h))) t = omega (arith, t .0)
-ids-over cs ss es n (inr (inr (inr h))) t = omega (arith, t .0)
+ids-over cs ss es n (inl h) t = omega (arith, t .few)
+ids-over cs ss es n (inr (inl h)) t = omega (arith, t .few)
+ids-over cs ss es n (inr (inr (inl h))) t = omega (arith, t .few)
+ids-over cs ss es n (inr (inr (inr h))) t = omega (arith, t .few)
 
 pub vectors-over : (cs ks : List ℕ) (n : ℕ) → (length cs < n) ⊎ (length ks < n) ⊎ (vectorLimit < n) → of-vectors.Table (of-vectors.held cs ks n) → ⊥
 vectors-over cs ks n (inl h) t = omega (arith, t .few)
@@ -86,7 +86,7 @@ pub ranges-get-over : (l : List ℕ) (n i : ℕ) (r : Found) → (length l < 2 *
 ranges-get-over l n i r h c = malformed-asked of-ranges.saidFound foundOf r (ranges-over l n h) c
 
 pub ids-merge-over : (a : of-ids.Held) (cs ss es : List ℕ) (n : ℕ) (o out : of-ids.Slices) (r : Made) → (length cs < n) ⊎ (length ss < n) ⊎ (length es < n) ⊎ (rowLimit < n)
-    → Crosses (of-ids.Merged a (of-ids.held cs ss es n) o out) asMade r → (r ≡ record { no = 5; count = 0 }) × (out ≡ of-ids.filled [] o)
+    → Crosses (of-ids.Merged a (of-ids.held cs ss es n) o out) asMade r → (r ≡ record { no = 5; count = 0 }) × (out ≡ of-ids.filled o [])
 ids-merge-over a cs ss es n o out r h c = malformed-made r (λ t. ids-over cs ss es n h (t .1)) c
 
 pub vector-compare-over : (a : of-vectors.Held) (cs ks : List ℕ) (n : ℕ) (r : Order) → (length cs < n) ⊎ (length ks < n) ⊎ (vectorLimit < n)
@@ -119,12 +119,12 @@ module _ (c d s k e : ℕ) (o out : of-ids.Slices) (r : Made) where
   rows-apart = row c s k ∷ row d k e ∷ []
 
   pub clients-apart : c < d → s < k → k < e → 2 ≤ of-ids.most o → Crosses (of-ids.Inserted (of-ids.held (c ∷ []) (s ∷ []) (k ∷ []) 1) (row d k e) o out) asMade r
-      → (r ≡ record { no = 0; count = 2 }) × (out ≡ of-ids.filled rows-apart o)
+      → (r ≡ record { no = 0; count = 2 }) × (out ≡ of-ids.filled o rows-apart)
   clients-apart f g h m x =
-      ids-one o out (of-ids.filled rows-apart o) r (record { no = 0; count = 2 }) x
+      ids-one o out (of-ids.filled o rows-apart) r (record { no = 0; count = 2 }) x
       (record {
         answer = made.Rows 2;
-        kept = done rows-apart (lit≤ tt, (g, tt, tt)) (
+        kept = done rows-apart (record { few = lit≤ tt; joined = (g, tt, tt) }) (
           (g, inl f, (h, tt, tt)),
           λ c k. (⊎-elim (λ y. inl (inl y)) (⊎-elim (λ y. inr y) (λ y. absurd y)), ⊎-elim (⊎-elim (λ y. inl y) (λ y. absurd y)) (λ y. inr (inl y))),
         ) m refl refl;
@@ -159,10 +159,10 @@ module _ (bs : List ℕ) (at : ℕ) (h : length bs ≤ at) where
   read-i8-past = read-signed-past (λ a. fitting 8 at (plain a)) refl
 
   pub decode-past : (o out : of-vectors.Slices) (r : Decoded) → Crosses (λ d. bytes.Decodes bs at o out (bytes.saidDecoded at d)) (asDecoded at) r
-      → (r ≡ record { no = 1; count = 0; next = at }) × (out ≡ of-vectors.filled [] o)
+      → (r ≡ record { no = 1; count = 0; next = at }) × (out ≡ of-vectors.filled o [])
   unfolding bytes.vectorAt andThen
   decode-past o out r x =
-      crossed (vectors.decoded-one bs at o) out (of-vectors.filled [] o) r (record { no = 1; count = 0; next = at }) x
+      crossed (vectors.decoded-one bs at o) out (of-vectors.filled o []) r (record { no = 1; count = 0; next = at }) x
       (record { answer = decoded.Refused End; kept = bytes.refused 1 (rw (number-past 32)) refl refl; same = refl })
 
 -- more bytes than remain from the place, or a place past the end: FULL, the buffer and the place as given

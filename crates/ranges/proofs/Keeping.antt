@@ -3,8 +3,8 @@ use mathlib.Core.Logic.{⊎-elim}
 use mathlib.Core.Path.{sym, subst₂}
 use Prim.Native.Nat.{ℕ, _+_}
 use Rattle.tables.specs.Inner.Unite.{Passed}
-use Rattle.tables.proofs.Joining.{split}
 use Rattle.ranges.specs.Inner.{Picked}
+use Rattle.varint.proofs.Cases.{split}
 
 -- a row and what is kept of it are picked together
 pub picked-both : (F : ℕ → ℕ → Type 0) {p x i j r a b v : ℕ} → F i a → F j b → Picked p x i j r → Picked p x a b v → F r v

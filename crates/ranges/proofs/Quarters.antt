@@ -4,7 +4,7 @@ use mathlib.Core.Path.{_≡_, subst}
 use Prim.Native.Nat.{ℕ, suc, _+_, _-_, _*_, _≤_, _<_}
 use native.Mathlib.Omega.{arith}
 use Rattle.tables.specs.Inner.Edit.{Parted, Advanced}
-use Rattle.tables.proofs.Joining.{split}
+use Rattle.varint.proofs.Cases.{split}
 use Rattle.tables.proofs.Climbing.{Rising}
 
 module _ (mark : ℕ → ℕ) (n x lo len q : ℕ) (up : Rising mark n) (some : 0 < q) (few : 4 * q ≤ len + 1) (p : Parted mark n x lo (lo + len)) where

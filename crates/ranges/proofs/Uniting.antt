@@ -5,7 +5,7 @@ use Prim.Native.Nat.{ℕ, _+_, _<_, max, min}
 use native.Mathlib.Omega.{arith}
 use Rattle.tables.specs.Inner.Rows.{Row}
 use Rattle.tables.specs.Inner.Unite.{Passed, Adds, United}
-use Rattle.tables.proofs.Joining.{split}
+use Rattle.varint.proofs.Cases.{split}
 use Rattle.tables.proofs.Spanning.{Links}
 use Rattle.tables.proofs.Uniting.{united-swap}
 use Rattle.tables.proofs.Taking.{united-take}
