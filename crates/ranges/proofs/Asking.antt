@@ -1,12 +1,12 @@
 -- The answers to questions about a table, by the index of a row. Assumes nothing.
 use mathlib.Core.Logic.{_↔_, ⊎-elim}
 use mathlib.Core.Path.{_≡_, refl, ap, sym, subst, _∙_}
-use mathlib.Core.Bool.{Bool, true, false}
+use mathlib.Core.Bool.{Bool, true, false, not}
 use mathlib.Core.List.{List, [], _∷_, map}
 use mathlib.Core.Option.{none, some, Option·map}
 use Prim.Native.Nat.{ℕ, zero, suc, _+_, _-_, _/_, _≤_, _<_}
 use native.Mathlib.Omega.{arith}
-use borrow.Author.Tests.{lt-ltb, le-ltb}
+use borrow.Author.Tests.{lt-ltb, le-ltb, not-true, not-false}
 use lib.ListN.{length}
 use Rattle.varint.specs.Answer.{noOf}
 use Rattle.varint.specs.declared.Refusal.the-variants.{Malformed}
@@ -23,11 +23,18 @@ use Rattle.ranges.specs.Inner.{rowAt, bare, Ruled}
 use Rattle.ranges.proofs.Plain.{plain, holds-plain}
 use Rattle.ranges.proofs.Flat.{rows-plain, length-rows, two-on, ruled-links, ruled-table, table-ruled}
 
-pub refused : {A : Type 0} {right : A → Type 0} {none : A} {l : List ℕ} {n : ℕ} {b : Bool} → Says (Ruled l n) b → b ≡ false → Tells (Table l n) right none (answer (noOf Malformed) none)
-refused s e = refuses (λ t. s .wrong e (table-ruled t)) refl
+-- ## After a test `if !well_formed(..)`
 
-pub told : {A : Type 0} {right : A → Type 0} {none : A} {l : List ℕ} {n : ℕ} {b : Bool} → Says (Ruled l n) b → b ≡ true → (v : A) → (Ruled l n → right v) → Tells (Table l n) right none (answer 0 v)
-told s e v r = let t = s .right e in says (ruled-table t) refl (r t)
+-- it was left
+pub formed : {P : Type 0} {b : Bool} → Says P b → not b ≡ false → P
+formed s e = s .right (not-false _ e)
+
+pub told : {A : Type 0} {right : A → Type 0} {none : A} {l : List ℕ} {n : ℕ} {b : Bool} → Says (Ruled l n) b → not b ≡ false → (v : A) → (Ruled l n → right v) → Tells (Table l n) right none (answer 0 v)
+told s e v r = let t = formed s e in says (ruled-table t) refl (r t)
+
+-- it was taken
+pub refused : {A : Type 0} {right : A → Type 0} {none : A} {l : List ℕ} {n : ℕ} {b : Bool} → Says (Ruled l n) b → not b ≡ true → Tells (Table l n) right none (answer (noOf Malformed) none)
+refused s e = refuses (λ t. s .wrong (not-true _ e) (table-ruled t)) refl
 
 -- ## The row at an index
 

@@ -96,17 +96,21 @@ after-more l i a t h p q = (q .0, same)
           λ z. q .1 x .1 (⊎-elim (λ w. inl (p .1 x .1 w)) (λ w. inr w) (f .0 z)),
         )
 
--- after i ranges of l the k rows of out are their table, and no table on the way was too long
-pub record Grown (l : List ℕ) (i len : ℕ) (out : List ℕ) (k : ℕ) : Type 0 where
+-- after i of the n ranges of l the k rows of out are their table, and no table on the way was too long
+pub record Grown (l : List ℕ) (n i len : ℕ) (out : List ℕ) (k : ℕ) : Type 0 where
+  pub fits : n ≤ length l / 2
+  pub within : i ≤ n
   pub same : length out ≡ len
   pub ruled : Ruled out k
   pub after : After l i (rows out k)
   pub fitted : (m : ℕ) → m ≤ i → (u : List Row) → After l m u → length u ≤ most len
 
-pub grown-none : (l out : List ℕ) → Grown l 0 (length out) out 0
+pub grown-none : {l out : List ℕ} {n : ℕ} → n ≤ length l / 2 → Grown l n 0 (length out) out 0
 unfolding rows
-grown-none l out =
+grown-none {l} {out} f =
     record {
+      fits = f;
+      within = omega arith;
       same = refl;
       ruled = record { few = omega arith; fits = omega arith; ruled = λ i h. absurd (omega arith) };
       after = none;
@@ -117,17 +121,19 @@ grown-none l out =
     none : TableOf (Holds (rows l 0)) []
     none = (tt, λ x. (λ h. h, λ h. h))
 
-module _ {l : List ℕ} {i len : ℕ} {out : List ℕ} {k : ℕ} (g : Grown l i len out k) {s e r : ℕ} (out′ : List ℕ) (f : i < length l / 2)
-    (a : s ≡ getD l (2 * i) 0) (b : e ≡ getD l (2 * i + 1) 0) (h : sweep.Holds (most (length out)) (rowAt out′) r (combined union (rowsOf out k) (range s e))) where
+module _ {l : List ℕ} {n i len : ℕ} {out : List ℕ} {k : ℕ} (g : Grown l n i len out k) {s e r : ℕ} (out′ : List ℕ) (f : i < n) (a : s ≡ getD l (2 * i) 0) (b : e ≡ getD l (2 * i + 1) 0)
+    (h : sweep.Holds (most (length out)) (rowAt out′) r (combined union (rowsOf out k) (range s e))) (c : length out′ ≡ length out) where
   next : After l (i + 1) (map bare (combined union (rowsOf out k) (range s e)))
   next =
-      after-more l i (rows out k) (map bare (combined union (rowsOf out k) (range s e))) f (g .after)
+      after-more l i (rows out k) (map bare (combined union (rowsOf out k) (range s e))) (omega (arith, g .fits)) (g .after)
       (subst (λ (q : Row). TableOf (λ x. Holds (rows out k) x ⊎ Holds (q ∷ []) x) (map bare (combined union (rowsOf out k) (range s e))))
       (λ j. row (a j) (b j)) (edited union-means out k s e (g .ruled .fits)))
 
-  pub grown-more : length out′ ≡ length out → r ≤ most len → Grown l (i + 1) len out′ r
-  grown-more c d =
+  pub grown-more : {room : ℕ} → room ≡ most len → r ≤ room → Grown l n (i + 1) len out′ r
+  grown-more o d =
       record {
+        fits = g .fits;
+        within = omega arith;
         same = c ∙ g .same;
         ruled = table-ruled (record { few = omega (arith, c, g .same); joined = now .0 });
         after = now;
@@ -147,15 +153,16 @@ module _ {l : List ℕ} {i len : ℕ} {out : List ℕ} {k : ℕ} (g : Grown l i 
           let z : u ≡ rows out′ r = table-one (Holds (rows l (i + 1))) u (rows out′ r) (subst (λ (v : ℕ). After l v u) w q) now in
           omega (arith, ap length z, length-rows out′ r (omega (arith, c, g .same)))
 
-  pub grown-full : (n : ℕ) {out″ : List ℕ} → i < n → n ≤ length l / 2 → most len < r → out″ ≡ replicate len 0 → FromRanges l n len out″ (made.Refused Full)
-  grown-full n c d m z =
-      full (i + 1) (map bare (combined union (rowsOf out k) (range s e))) d (omega arith) next
-      (omega (arith, length-map (combined union (rowsOf out k) (range s e)) bare, h .over (omega (arith, g .same)), g .same)) refl (z ∙ filled-none len)
+  pub grown-full : {room : ℕ} {out″ : List ℕ} → room ≡ most len → room < r → out″ ≡ replicate (length out′) 0 → FromRanges l n len out″ (made.Refused Full)
+  grown-full o m z =
+      full (i + 1) (map bare (combined union (rowsOf out k) (range s e))) (g .fits) (omega arith) next
+      (omega (arith, length-map (combined union (rowsOf out k) (range s e)) bare, h .over (omega (arith, g .same)), g .same)) refl
+      (z ∙ (ap (λ (m : ℕ). replicate m 0) (c ∙ g .same) ∙ filled-none len))
 
-pub grown-all : {l : List ℕ} {i n len : ℕ} {out out′ : List ℕ} {k : ℕ} {r : Made} → Grown l i len out k → i ≡ n → n ≤ length l / 2
+pub grown-all : {l : List ℕ} {i n len : ℕ} {out out′ : List ℕ} {k : ℕ} {r : Made} → Grown l n i len out k → n ≤ i
     → ((rs : inner.Rows) → sweep.Holds (most (length out)) (rowAt out) k rs → Wrote rs (length out) out′ r) → FromRanges l n len out′ r
-grown-all {l} {i} {n} {len} {out} {out′} {k} {r} g e d f =
-    done (rows out k) d (subst (λ (v : ℕ). After l v (rows out k)) e (g .after)) (λ m h u p. g .fitted m (omega arith) u p)
+grown-all {l} {i} {n} {len} {out} {out′} {k} {r} g e f =
+    done (rows out k) (g .fits) (subst (λ (v : ℕ). After l v (rows out k)) (let z : i ≡ n = omega (arith, g .within) in z) (g .after)) (λ m h u p. g .fitted m (omega arith) u p)
     (ap saidMade (w .0 ∙ ap made.Rows (length-span (rowAt out) 0 k ∙ sym (length-rows out k (g .ruled .fits)))))
     (w .1 ∙ ap₂ filled (g .same) (ap (λ (t : inner.Rows). map bare t) (sym (rows-plain out k (g .ruled .fits))) ∙ bare-plain (rows out k)))
   where

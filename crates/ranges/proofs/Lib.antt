@@ -3,7 +3,6 @@ pub mod Plain
 pub mod Flat
 pub mod Writing
 pub mod Stores
-pub mod Keeping
 pub mod Uniting
 pub mod Moving
 pub mod Parts

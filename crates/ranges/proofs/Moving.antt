@@ -63,8 +63,11 @@ pub size-none : (s e : ℕ) → e ≤ s → length (range s e) ≡ 0
 unfolding range
 size-none s e h = simp (le-ltb s e h)
 
-pub size-most : (s e : ℕ) → length (range s e) ≤ 1
+size-most : (s e : ℕ) → length (range s e) ≤ 1
 size-most s e = ⊎-elim (λ h. omega (arith, size-one s e h)) (λ h. omega (arith, size-none s e h)) (split s e)
+
+pub sized : {r : ℕ} (s e : ℕ) → r ≡ length (range s e) → r ≤ 1
+sized s e h = omega (arith, size-most s e)
 
 pub stands-none : (l : List ℕ) (k s e : ℕ) → e ≤ s → Stands (rowAt l) k (range s e) (rowAt l) k
 unfolding range span

@@ -4,12 +4,6 @@ use borrow.Author.Needs.{needs}
 use Rattle.ranges.proofs.advance.Statement.{statement}
 use Rattle.ranges.proofs.advance.Tie as tie
 
-add-below : tie.Need-add-below
-add-below c = search needs
-
-sub-below : tie.Need-sub-below
-sub-below c = search needs
-
 mul-result : tie.Need-mul-result
 mul-result c = omega (arith, advanced-most (advanced (c .args .m) (c .args .x) (c .args .half) (omega arith) (omega arith)))
 
@@ -17,4 +11,4 @@ returns : tie.Need-returns
 returns c = advanced (c .args .m) (c .args .x) (c .args .half) (omega arith) (omega arith)
 
 pub advance-spec : {M : Type 1} → statement M
-advance-spec = tie.close (tie.spec add-below sub-below mul-result returns)
+advance-spec = tie.close (tie.spec (λ c. search needs) (λ c. search needs) mul-result returns)

@@ -4,20 +4,11 @@ use borrow.Author.Needs.{needs}
 use Rattle.ranges.proofs.apart.Statement.{statement}
 use Rattle.ranges.proofs.apart.Tie as tie
 
-add-i : tie.Need-add-i
-add-i c = search needs
-
 returns : tie.Need-returns
 returns c = says-no (λ h. omega (arith, h .left))
 
-add-j : tie.Need-add-j
-add-j c = search needs
-
 returns-2 : tie.Need-returns-2
 returns-2 c = says-no (λ h. omega (arith, h .right))
-
-add-k : tie.Need-add-k
-add-k c = search needs
 
 returns-3 : tie.Need-returns-3
 returns-3 c = says-no (λ h. omega (arith, h .room))
@@ -26,4 +17,4 @@ returns-4 : tie.Need-returns-4
 returns-4 c = says-yes (record { left = omega arith; right = omega arith; room = omega arith })
 
 pub apart-spec : {M : Type 1} → statement M
-apart-spec = tie.close (tie.spec add-i returns add-j returns-2 add-k returns-3 returns-4)
+apart-spec = tie.close (tie.spec (λ c. search needs) returns (λ c. search needs) returns-2 (λ c. search needs) returns-3 returns-4)

@@ -1,46 +1,42 @@
 use mathlib.Core.Bool.{true, false}
 use native.Mathlib.Omega.{arith}
-use borrow.Author.Tests.{not-true, not-false}
-use Rattle.ranges.proofs.Asking.{refused, told, held-at, held-none}
+use Rattle.ranges.proofs.Asking.{formed, told, refused, held-at, held-none}
 use borrow.Author.Needs.{needs}
 use Rattle.ranges.proofs.contains_clock.Statement.{statement}
 use Rattle.ranges.proofs.contains_clock.Tie as tie
 
-well-formed-requires : tie.Need-well-formed-requires
-well-formed-requires c κs = search needs
-
 returns : tie.Need-returns
-returns c = refused (c .before .well-formed .ensures) (not-true _ (c .if1 .taken))
-
-cast-ends-below : tie.Need-cast-ends-below
-cast-ends-below c = search needs
-
-add-ends-below : tie.Need-add-ends-below
-add-ends-below c = search needs
+returns c = refused (c .before .well-formed .ensures) (c .if1 .taken)
 
 ends-below-requires : tie.Need-ends-below-requires
-ends-below-requires c κs = let t = c .before .well-formed .ensures .right (not-false _ (c .if1 .left)) in (t, omega arith)
+ends-below-requires c κs = (formed (c .before .well-formed .ensures) (c .if1 .left), omega arith)
 
 returns-2 : tie.Need-returns-2
-returns-2 c = told (c .before .before .before .well-formed .ensures) (not-false _ (c .before .before .if1 .left)) false (held-none _ _ _ _ (c .before .ends-below .ensures) (λ h. absurd (omega arith)))
+returns-2 c = let e : tie.Else1 = search in told (e .before .well-formed .ensures) (e .if1 .left) false (held-none _ _ _ _ (c .before .ends-below .ensures) (λ h. absurd (omega arith)))
 
 start-at-requires : tie.Need-start-at-requires
-start-at-requires c κs = omega (arith, c .before .before .before .well-formed .ensures .right (not-false _ (c .before .before .if1 .left)) .fits)
+start-at-requires c κs = let e : tie.Else1 = search in omega (arith, formed (e .before .well-formed .ensures) (e .if1 .left) .fits)
 
 returns-3 : tie.Need-returns-3
-returns-3 c = told (c .before .before .before .before .before .well-formed .ensures) (not-false _ (c .before .before .before .before .if1 .left)) false (held-none _ _ _ _ (c .before .before .before .ends-below .ensures) (λ h. omega (arith, c .before .start-at .ensures)))
+returns-3 c =
+    let b : tie.After-ends-below = search in
+    let e : tie.Else1 = search in
+    told (e .before .well-formed .ensures) (e .if1 .left) false (held-none _ _ _ _ (b .ends-below .ensures) (λ h. omega (arith, c .before .start-at .ensures)))
 
 returns-4 : tie.Need-returns-4
-returns-4 c = told (c .before .before .before .before .before .well-formed .ensures) (not-false _ (c .before .before .before .before .if1 .left)) true (held-at _ _ _ _ (c .before .before .before .ends-below .ensures) (omega arith) (omega (arith, c .before .start-at .ensures)))
+returns-4 c =
+    let b : tie.After-ends-below = search in
+    let e : tie.Else1 = search in
+    told (e .before .well-formed .ensures) (e .if1 .left) true (held-at _ _ _ _ (b .ends-below .ensures) (omega arith) (omega (arith, c .before .start-at .ensures)))
 
 pub contains-clock-spec : {M : Type 1} → statement M
 contains-clock-spec =
     tie.close
     (tie.spec
-    well-formed-requires
+    (λ c κs. search needs)
     returns
-    cast-ends-below
-    add-ends-below
+    (λ c. search needs)
+    (λ c. search needs)
     ends-below-requires
     returns-2
     start-at-requires

@@ -1,120 +1,135 @@
-use mathlib.Core.Path.{_≡_, _∙_, refl}
-use Prim.Native.Nat.{_+_, _-_, _*_, _<_}
+-- As `cross`, where the other rows are the gaps of the right table. Assumes nothing.
+use mathlib.Core.Path.{_∙_}
+use Prim.Native.Nat.{_+_, _-_}
 use native.Mathlib.Omega.{arith}
 use lib.ListN.{length}
-use Rattle.tables.specs.Inner.Ends.{Wide}
-use Rattle.tables.proofs.Uniting.{holds-other}
-use Rattle.tables.proofs.Gaps.{gaps, gap-read, gaps-order, gaps-plain, gaps-combined}
-use Rattle.tables.proofs.Meeting.{meeting-less, below-less}
+use Rattle.tables.proofs.Gaps.{gaps, gap-read, gaps-order}
 use Rattle.ranges.specs.Inner.{rowAt}
-use Rattle.ranges.proofs.Editing.{ruled-plain}
-use Rattle.ranges.proofs.Walking.{Walk, walk-none, walk-bounds, walk-up, walk-down, walk-turn, walk-rest, walk-settle, walk-halves, wide-step}
+use Rattle.ranges.proofs.Walking.{Walk, Gap, walk-gaps, gaps-differ, walk-on, walk-bounds, walk-settle, walk-halves, turn-step, turn-above, turn-down, turn-more, turn-less, rest-step, rest-more, rest-less}
 use borrow.Author.Needs.{needs}
 use Rattle.ranges.proofs.differ.Statement.{statement}
 use Rattle.ranges.proofs.differ.Tie as tie
 
 abbrev Inv-loop : tie.InvT-loop
-Inv-loop a n b m out₀ most lo hi w₀ z₀ out w z = (length out ≡ length out₀) × Walk a n (gaps 4294967295 (rowAt b) m lo) (hi - lo) most out (w .i) (w .j) (w .k) (z .u) (z .v) (z .t)
+Inv-loop a n b m out₀ most lo hi w₀ z₀ out w z = Walk a n (gaps 4294967295 (rowAt b) m lo) (hi - lo) (Gap b m lo) most (length out₀) out (w .i) (w .j) (w .k) (z .u) (z .v) (z .t)
 
 abbrev μ-loop : tie.MeasureT-loop
 μ-loop a n b m out₀ most lo hi w₀ z₀ out w z = (z .u + z .v) - (w .i + w .j)
 
 abbrev Inv-loop2 : tie.InvT-loop2
-Inv-loop2 a n b m out₀ most lo hi w₀ z out w = (length out ≡ length out₀) × Walk a n (gaps 4294967295 (rowAt b) m lo) (hi - lo) most out (w .i) (w .j) (w .k) (z .u) (z .v) (z .t)
+Inv-loop2 a n b m out₀ most lo hi w₀ z out w = Walk a n (gaps 4294967295 (rowAt b) m lo) (hi - lo) (Gap b m lo) most (length out₀) out (w .i) (w .j) (w .k) (z .u) (z .v) (z .t)
 
 abbrev μ-loop2 : tie.MeasureT-loop2
 μ-loop2 a n b m out₀ most lo hi w₀ z out w = (z .u + z .v) - (w .i + w .j)
 
--- in a turn of the first loop, and of the second
-turn : (c : tie.Then1 Inv-loop μ-loop Inv-loop2 μ-loop2) → let w = c .before .before .loop .w in let z = c .before .before .loop .z in Wide (w .i) (w .j) (w .k) (z .u) (z .v) (z .t)
-turn c = c .before .apart .ensures .right (c .if1 .taken)
+-- a turn of the first loop, and of the second
+abbrev Turn : Type 0
+Turn = tie.Then1 Inv-loop μ-loop Inv-loop2 μ-loop2
 
-rest : (c : tie.Then2 Inv-loop μ-loop Inv-loop2 μ-loop2) → let w = c .before .before .loop2 .w in let z = c .before .before .before .before .before .loop .z in (w .i < z .u) × (w .j < z .v)
-rest c = c .before .between .ensures .right (c .if2 .taken)
-
-gaps-from-requires : tie.Need-gaps-from-requires Inv-loop μ-loop Inv-loop2 μ-loop2
-gaps-from-requires c κs = omega (arith, c .before .before .before .pre .1 .0 .fits)
+abbrev Rest : Type 0
+Rest = tie.Then2 Inv-loop μ-loop Inv-loop2 μ-loop2
 
 gaps-to-requires : tie.Need-gaps-to-requires Inv-loop μ-loop Inv-loop2 μ-loop2
-gaps-to-requires c κs = (omega (arith, c .before .before .before .before .pre .1 .0 .fits), c .before .before .before .before .pre .1 .0 .few)
+gaps-to-requires c κs = let s : tie.Start Inv-loop μ-loop Inv-loop2 μ-loop2 = search in (omega (arith, s .pre .1 .0 .fits), s .pre .1 .0 .few)
 
 sub-t11 : tie.Need-sub-t11 Inv-loop μ-loop Inv-loop2 μ-loop2
 sub-t11 c = gaps-order (c .before .gaps-from .ensures) (c .gaps-to .ensures)
 
 loop-holds : tie.Need-loop-holds Inv-loop μ-loop Inv-loop2 μ-loop2
-loop-holds c = (refl, walk-none (c .before .before .before .before .before .pre .0) (gaps-plain 4294967295 _ _ _ _ (ruled-plain (c .before .before .before .before .before .pre .1 .0)) (omega arith) (c .before .gaps-from .ensures) (c .gaps-to .ensures)) (omega (arith, c .before .before .before .before .before .pre .1 .0 .few, c .gaps-to .ensures .most)) (c .before .before .before .before .before .pre .1 .1))
+loop-holds c =
+    let s : tie.Start Inv-loop μ-loop Inv-loop2 μ-loop2 = search in
+    walk-gaps (s .pre .0) (s .pre .1 .0) (c .before .gaps-from .ensures) (c .gaps-to .ensures) (s .pre .1 .1)
 
 apart-requires : tie.Need-apart-requires Inv-loop μ-loop Inv-loop2 μ-loop2
-apart-requires c κs = walk-bounds (c .loop .inv .1)
+apart-requires c κs = walk-bounds (c .loop .inv)
 
 row-at-requires : tie.Need-row-at-requires Inv-loop μ-loop Inv-loop2 μ-loop2
-row-at-requires c κs = omega (arith, c .before .before .before .loop .inv .1 .one .fits, c .before .before .before .loop .inv .1 .met .one .within, turn (c .before))
-
-add-gap-at : tie.Need-add-gap-at Inv-loop μ-loop Inv-loop2 μ-loop2
-add-gap-at c = omega (arith, c .before .before .before .before .before .before .before .gaps-from .ensures .few, walk-bounds (c .before .before .before .before .before .loop .inv .1) .1 .0)
+row-at-requires c κs = let t : Turn = search in turn-step (t .before .before .loop .inv) (t .before .apart .ensures) (t .if1 .taken) .row
 
 gap-at-requires : tie.Need-gap-at-requires Inv-loop μ-loop Inv-loop2 μ-loop2
-gap-at-requires c κs = (omega (arith, c .before .before .before .before .before .before .before .before .before .before .before .pre .1 .0 .fits), omega (arith, c .before .before .before .before .before .before .gaps-to .ensures .most, c .before .before .before .before .before .loop .inv .1 .met .two .within, turn (c .before .before .before)))
+gap-at-requires c κs = let t : Turn = search in turn-step (t .before .before .loop .inv) (t .before .apart .ensures) (t .if1 .taken) .asks
 
 up-requires : tie.Need-up-requires Inv-loop μ-loop Inv-loop2 μ-loop2
-up-requires c κs = walk-up (c .before .before .before .before .before .before .loop .inv .1) (wide-step (turn (c .before .before .before .before)))
+up-requires c κs = let t : Turn = search in turn-step (t .before .before .loop .inv) (t .before .apart .ensures) (t .if1 .taken) .up
 
 sub-row-at : tie.Need-sub-row-at Inv-loop μ-loop Inv-loop2 μ-loop2
-sub-row-at c = omega (arith, turn (c .before .before .before .before .before .before .before .before .before))
+sub-row-at c = let t : Turn = search in turn-above (t .before .before .loop .inv) (t .before .apart .ensures) (t .if1 .taken) .left
 
 row-at-requires-2 : tie.Need-row-at-requires-2 Inv-loop μ-loop Inv-loop2 μ-loop2
-row-at-requires-2 c κs = omega (arith, c .before .before .before .before .before .before .before .before .before .before .before .loop .inv .1 .one .fits, c .before .before .before .before .before .before .before .before .before .before .before .loop .inv .1 .met .one .within, turn (c .before .before .before .before .before .before .before .before .before))
+row-at-requires-2 c κs = let t : Turn = search in turn-above (t .before .before .loop .inv) (t .before .apart .ensures) (t .if1 .taken) .row
 
 sub-gap-at : tie.Need-sub-gap-at Inv-loop μ-loop Inv-loop2 μ-loop2
-sub-gap-at c = omega (arith, turn (c .before .before .before .before .before .before .before .before .before .before .before))
+sub-gap-at c = let t : Turn = search in turn-above (t .before .before .loop .inv) (t .before .apart .ensures) (t .if1 .taken) .right
 
 add-gap-at-2 : tie.Need-add-gap-at-2 Inv-loop μ-loop Inv-loop2 μ-loop2
-add-gap-at-2 c = omega (arith, c .before .before .before .before .before .before .before .before .before .before .before .before .before .before .before .gaps-from .ensures .few, c .before .before .before .before .before .before .before .before .before .before .before .before .before .loop .inv .1 .few, c .before .before .before .before .before .before .before .before .before .before .before .before .before .loop .inv .1 .met .two .within)
+add-gap-at-2 c = let t : Turn = search in omega (arith, turn-above (t .before .before .loop .inv) (t .before .apart .ensures) (t .if1 .taken) .asks)
 
 gap-at-requires-2 : tie.Need-gap-at-requires-2 Inv-loop μ-loop Inv-loop2 μ-loop2
-gap-at-requires-2 c κs = (omega (arith, c .before .before .before .before .before .before .before .before .before .before .before .before .before .before .before .before .before .before .before .pre .1 .0 .fits), omega (arith, c .before .before .before .before .before .before .before .before .before .before .before .before .before .before .gaps-to .ensures .most, c .before .before .before .before .before .before .before .before .before .before .before .before .before .loop .inv .1 .met .two .within, turn (c .before .before .before .before .before .before .before .before .before .before .before)))
+gap-at-requires-2 c κs = let t : Turn = search in turn-above (t .before .before .loop .inv) (t .before .apart .ensures) (t .if1 .taken) .asks
 
 down-requires : tie.Need-down-requires Inv-loop μ-loop Inv-loop2 μ-loop2
-down-requires c κs = walk-down (c .before .before .before .before .before .before .before .before .before .before .before .before .before .before .loop .inv .1) (turn (c .before .before .before .before .before .before .before .before .before .before .before .before)) (c .before .before .before .before .before .before .before .up .kept .0)
+down-requires c κs =
+    let u : tie.After-up Inv-loop μ-loop Inv-loop2 μ-loop2 = search in
+    let t : Turn = search in
+    turn-down (t .before .before .loop .inv) (t .before .apart .ensures) (t .if1 .taken) (u .up .kept .0)
 
 loop-less : tie.Need-loop-less Inv-loop μ-loop Inv-loop2 μ-loop2
-loop-less c = meeting-less (turn (c .before .before .before .before .before .before .before .before .before .before .before .before .before .before .before)) (c .before .before .before .before .before .before .before .before .before .before .up .ensures) (c .before .before .down .ensures)
+loop-less c =
+    let d : tie.After-down Inv-loop μ-loop Inv-loop2 μ-loop2 = search in
+    let u : tie.After-up Inv-loop μ-loop Inv-loop2 μ-loop2 = search in
+    let t : Turn = search in
+    turn-less (t .before .apart .ensures) (t .if1 .taken) (u .up .ensures) (d .down .ensures)
 
 loop-again : tie.Need-loop-again Inv-loop μ-loop Inv-loop2 μ-loop2
-loop-again c = (c .before .before .down .kept .0 ∙ (c .before .before .before .before .before .before .before .before .before .before .up .kept .0 ∙ c .before .before .before .before .before .before .before .before .before .before .before .before .before .before .before .before .before .loop .inv .0), walk-turn (c .before .before .before .before .before .before .before .before .before .before .before .before .before .before .before .before .before .loop .inv .1) (turn (c .before .before .before .before .before .before .before .before .before .before .before .before .before .before .before)) (c .before .before .before .before .before .before .before .before .before .before .before .before .before .row-at .ensures) (gap-read _ _ _ (c .before .before .before .before .before .before .before .before .before .before .before .gap-at .ensures)) (c .before .before .before .before .before .before .before .before .before .before .up .ensures) (c .before .before .before .before .before .before .before .before .before .before .up .kept .0) (c .before .before .before .before .before .row-at2 .ensures) (gap-read _ _ _ (c .before .before .before .gap-at2 .ensures)) (c .before .before .down .ensures) (c .before .before .down .kept .0))
+loop-again c =
+    let d : tie.After-down Inv-loop μ-loop Inv-loop2 μ-loop2 = search in
+    let u : tie.After-up Inv-loop μ-loop Inv-loop2 μ-loop2 = search in
+    let t : Turn = search in
+    turn-more (t .before .before .loop .inv) (t .before .apart .ensures) (t .if1 .taken) (u .before .before .before .row-at .ensures) (gap-read _ _ _ (u .before .gap-at .ensures)) (u .up .ensures) (u .up .kept .0)
+    (d .before .before .before .row-at2 .ensures) (gap-read _ _ _ (d .before .gap-at2 .ensures)) (d .down .ensures) (d .down .kept .0)
 
 loop2-holds : tie.Need-loop2-holds Inv-loop μ-loop Inv-loop2 μ-loop2
-loop2-holds c = (refl, c .before .before .loop .inv .1)
-
-between-requires : tie.Need-between-requires Inv-loop μ-loop Inv-loop2 μ-loop2
-between-requires c κs = search needs
+loop2-holds c = walk-on (c .before .before .loop .inv)
 
 row-at-requires-3 : tie.Need-row-at-requires-3 Inv-loop μ-loop Inv-loop2 μ-loop2
-row-at-requires-3 c κs = omega (arith, c .before .before .before .loop2 .inv .1 .one .fits, c .before .before .before .loop2 .inv .1 .met .one .within, (rest (c .before)) .0)
-
-add-gap-at-3 : tie.Need-add-gap-at-3 Inv-loop μ-loop Inv-loop2 μ-loop2
-add-gap-at-3 c = omega (arith, c .before .before .before .before .before .before .before .before .before .before .gaps-from .ensures .few, walk-bounds (c .before .before .before .before .before .loop2 .inv .1) .1 .0)
+row-at-requires-3 c κs = let r : Rest = search in rest-step (r .before .before .loop2 .inv) (r .before .between .ensures) (r .if2 .taken) .row
 
 gap-at-requires-3 : tie.Need-gap-at-requires-3 Inv-loop μ-loop Inv-loop2 μ-loop2
-gap-at-requires-3 c κs = (omega (arith, c .before .before .before .before .before .before .before .before .before .before .before .before .before .before .pre .1 .0 .fits), omega (arith, c .before .before .before .before .before .before .before .before .before .gaps-to .ensures .most, c .before .before .before .before .before .loop2 .inv .1 .met .two .within, (rest (c .before .before .before)) .1))
+gap-at-requires-3 c κs = let r : Rest = search in rest-step (r .before .before .loop2 .inv) (r .before .between .ensures) (r .if2 .taken) .asks
 
 up-requires-2 : tie.Need-up-requires-2 Inv-loop μ-loop Inv-loop2 μ-loop2
-up-requires-2 c κs = walk-up (c .before .before .before .before .before .before .loop2 .inv .1) (rest (c .before .before .before .before))
+up-requires-2 c κs = let r : Rest = search in rest-step (r .before .before .loop2 .inv) (r .before .between .ensures) (r .if2 .taken) .up
 
 loop2-less : tie.Need-loop2-less Inv-loop μ-loop Inv-loop2 μ-loop2
-loop2-less c = below-less (rest (c .before .before .before .before .before .before .before)) (c .before .before .up2 .ensures)
+loop2-less c =
+    let u : tie.After-up2 Inv-loop μ-loop Inv-loop2 μ-loop2 = search in
+    let r : Rest = search in
+    rest-less (r .before .between .ensures) (r .if2 .taken) (u .up2 .ensures)
 
 loop2-again : tie.Need-loop2-again Inv-loop μ-loop Inv-loop2 μ-loop2
-loop2-again c = (c .before .before .up2 .kept .0 ∙ c .before .before .before .before .before .before .before .before .before .loop2 .inv .0, walk-rest (c .before .before .before .before .before .before .before .before .before .loop2 .inv .1) (rest (c .before .before .before .before .before .before .before)) (c .before .before .before .before .before .row-at3 .ensures) (gap-read _ _ _ (c .before .before .before .gap-at3 .ensures)) (c .before .before .up2 .ensures) (c .before .before .up2 .kept .0))
+loop2-again c =
+    let u : tie.After-up2 Inv-loop μ-loop Inv-loop2 μ-loop2 = search in
+    let r : Rest = search in
+    rest-more (r .before .before .loop2 .inv) (r .before .between .ensures) (r .if2 .taken) (u .before .before .before .row-at3 .ensures) (gap-read _ _ _ (u .before .gap-at3 .ensures)) (u .up2 .ensures) (u .up2 .kept .0)
 
 settle-requires : tie.Need-settle-requires Inv-loop μ-loop Inv-loop2 μ-loop2
-settle-requires c κs = walk-settle (c .before .before .before .loop2 .inv .1)
+settle-requires c κs = let l : tie.At-loop2 Inv-loop μ-loop Inv-loop2 μ-loop2 = search in walk-settle (l .loop2 .inv)
 
 same-length : tie.Need-same-length Inv-loop μ-loop Inv-loop2 μ-loop2
-same-length c = c .before .before .settle .kept .0 ∙ (c .before .before .before .before .before .before .loop2 .inv .0 ∙ c .before .before .before .before .before .before .before .before .before .loop .inv .0)
+same-length c =
+    let s : tie.After-settle Inv-loop μ-loop Inv-loop2 μ-loop2 = search in
+    let l2 : tie.At-loop2 Inv-loop μ-loop Inv-loop2 μ-loop2 = search in
+    let l : tie.At-loop Inv-loop μ-loop Inv-loop2 μ-loop2 = search in
+    s .settle .kept .0 ∙ (l2 .loop2 .inv .same ∙ l .loop .inv .same)
 
 returns : tie.Need-returns Inv-loop μ-loop Inv-loop2 μ-loop2
-returns c = holds-other (gaps-combined 4294967295 _ _ _ _ (ruled-plain (c .before .before .before .before .before .before .before .before .before .before .before .before .before .before .before .pre .1 .0)) (omega arith) (c .before .before .before .before .before .before .before .before .before .before .before .gaps-from .ensures) (c .before .before .before .before .before .before .before .before .before .before .gaps-to .ensures) _ _ (ruled-plain (c .before .before .before .before .before .before .before .before .before .before .before .before .before .before .before .pre .0)) (λ i. omega (arith, c .before .before .before .before .before .before .before .before .before .before .before .before .before .before .shared-slice-known .given (2 * i + 1)))) (c .before .before .settle .ensures _ (walk-halves (c .before .before .before .before .before .before .loop2 .inv .1) (c .before .before .before .before .before .between .ensures .wrong (c .before .before .before .before .if2 .left))))
+returns c =
+    let s : tie.After-settle Inv-loop μ-loop Inv-loop2 μ-loop2 = search in
+    let e : tie.Else2 Inv-loop μ-loop Inv-loop2 μ-loop2 = search in
+    let g : tie.After-gaps-to Inv-loop μ-loop Inv-loop2 μ-loop2 = search in
+    let k : tie.After-shared-slice-known Inv-loop μ-loop Inv-loop2 μ-loop2 = search in
+    gaps-differ (k .before .pre .0) (k .before .pre .1 .0) (g .before .gaps-from .ensures) (g .gaps-to .ensures) (k .shared-slice-known .given)
+    (s .settle .ensures _ (walk-halves (e .before .before .loop2 .inv) (e .before .between .ensures) (e .if2 .left)))
 
 pub differ-spec : {M : Type 1} → statement M
 differ-spec =
@@ -124,13 +139,13 @@ differ-spec =
     μ-loop
     Inv-loop2
     μ-loop2
-    gaps-from-requires
+    (λ c κs. search needs)
     gaps-to-requires
     sub-t11
     loop-holds
     apart-requires
     row-at-requires
-    add-gap-at
+    (λ c. search needs)
     gap-at-requires
     up-requires
     sub-row-at
@@ -142,9 +157,9 @@ differ-spec =
     loop-less
     loop-again
     loop2-holds
-    between-requires
+    (λ c κs. search needs)
     row-at-requires-3
-    add-gap-at-3
+    (λ c. search needs)
     gap-at-requires-3
     up-requires-2
     loop2-less

@@ -6,17 +6,10 @@ use borrow.Author.Needs.{needs}
 use Rattle.ranges.proofs.end_or.Statement.{statement}
 use Rattle.ranges.proofs.end_or.Tie as tie
 
-returns : tie.Need-returns
-returns c = search needs
-
-sub-end-at : tie.Need-sub-end-at
-sub-end-at c = search needs
-
-end-at-requires : tie.Need-end-at-requires
-end-at-requires c κs = search needs
-
 returns-2 : tie.Need-returns-2
-returns-2 c = record { here = λ k e. c .end-at .ensures ∙ ap (λ (j : ℕ). rowAt (c .before .before .before .args .t .now) j .end) (omega arith); none = λ e. absurd (omega arith) }
+returns-2 c =
+    let s : tie.Start = search in
+    record { here = λ k e. c .end-at .ensures ∙ ap (λ (j : ℕ). rowAt (s .args .t .now) j .end) (omega arith); none = λ e. absurd (omega arith) }
 
 pub end-or-spec : {M : Type 1} → statement M
-end-or-spec = tie.close (tie.spec returns sub-end-at end-at-requires returns-2)
+end-or-spec = tie.close (tie.spec (λ c. search needs) (λ c. search needs) (λ c κs. search needs) returns-2)

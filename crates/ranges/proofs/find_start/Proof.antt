@@ -1,40 +1,30 @@
 use mathlib.Core.Option.{none, some}
 use native.Mathlib.Omega.{arith}
-use borrow.Author.Tests.{not-true, not-false}
-use Rattle.ranges.proofs.Asking.{refused, told, found-at, found-none}
+use Rattle.ranges.proofs.Asking.{formed, told, refused, found-at, found-none}
 use borrow.Author.Needs.{needs}
 use Rattle.ranges.proofs.find_start.Statement.{statement}
 use Rattle.ranges.proofs.find_start.Tie as tie
 
-well-formed-requires : tie.Need-well-formed-requires
-well-formed-requires c κs = search needs
-
 returns : tie.Need-returns
-returns c = refused (c .before .well-formed .ensures) (not-true _ (c .if1 .taken))
-
-cast-ends-below : tie.Need-cast-ends-below
-cast-ends-below c = search needs
-
-add-ends-below : tie.Need-add-ends-below
-add-ends-below c = search needs
+returns c = refused (c .before .well-formed .ensures) (c .if1 .taken)
 
 ends-below-requires : tie.Need-ends-below-requires
-ends-below-requires c κs = let t = c .before .well-formed .ensures .right (not-false _ (c .if1 .left)) in (t, omega arith)
+ends-below-requires c κs = (formed (c .before .well-formed .ensures) (c .if1 .left), omega arith)
 
 returns-2 : tie.Need-returns-2
-returns-2 c = told (c .before .before .before .well-formed .ensures) (not-false _ (c .before .before .if1 .left)) none (found-none _ _ _ _ (c .before .ends-below .ensures) (c .if2 .taken))
+returns-2 c = let e : tie.Else1 = search in told (e .before .well-formed .ensures) (e .if1 .left) none (found-none _ _ _ _ (c .before .ends-below .ensures) (c .if2 .taken))
 
 returns-3 : tie.Need-returns-3
-returns-3 c = told (c .before .before .before .well-formed .ensures) (not-false _ (c .before .before .if1 .left)) (some _) (found-at _ _ _ _ (c .before .ends-below .ensures) (omega arith))
+returns-3 c = let e : tie.Else1 = search in told (e .before .well-formed .ensures) (e .if1 .left) (some _) (found-at _ _ _ _ (c .before .ends-below .ensures) (omega arith))
 
 pub find-start-spec : {M : Type 1} → statement M
 find-start-spec =
     tie.close
     (tie.spec
-    well-formed-requires
+    (λ c κs. search needs)
     returns
-    cast-ends-below
-    add-ends-below
+    (λ c. search needs)
+    (λ c. search needs)
     ends-below-requires
     returns-2
     returns-3)

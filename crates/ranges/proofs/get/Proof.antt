@@ -1,33 +1,30 @@
-use mathlib.Core.Path.{_∙_}
+use mathlib.Core.Path.{ap₂, _∙_}
 use mathlib.Core.Option.{none, some}
 use native.Mathlib.Omega.{arith}
-use borrow.Author.Tests.{not-true, not-false}
-use Rattle.ranges.proofs.Asking.{refused, told, get-row, get-none}
+use Rattle.ranges.proofs.Asking.{formed, told, refused, get-row, get-none}
 use Rattle.ranges.specs.Rows.{row}
-use mathlib.Core.Path.{ap₂}
 use borrow.Author.Needs.{needs}
 use Rattle.ranges.proofs.get.Statement.{statement}
 use Rattle.ranges.proofs.get.Tie as tie
 
-well-formed-requires : tie.Need-well-formed-requires
-well-formed-requires c κs = search needs
-
 returns : tie.Need-returns
-returns c = refused (c .before .well-formed .ensures) (not-true _ (c .if1 .taken))
+returns c = refused (c .before .well-formed .ensures) (c .if1 .taken)
 
 returns-2 : tie.Need-returns-2
-returns-2 c = told (c .before .before .well-formed .ensures) (not-false _ (c .before .if1 .left)) none (λ _. get-none _ _ _ (c .if2 .taken))
+returns-2 c = let e : tie.Else1 = search in told (e .before .well-formed .ensures) (e .if1 .left) none (λ _. get-none _ _ _ (c .if2 .taken))
 
 start-at-requires : tie.Need-start-at-requires
-start-at-requires c κs = let t = c .before .before .well-formed .ensures .right (not-false _ (c .before .if1 .left)) in omega (arith, t .fits)
+start-at-requires c κs = let e : tie.Else1 = search in omega (arith, formed (e .before .well-formed .ensures) (e .if1 .left) .fits)
 
 end-at-requires : tie.Need-end-at-requires
-end-at-requires c κs = let t = c .before .before .before .well-formed .ensures .right (not-false _ (c .before .before .if1 .left)) in omega (arith, t .fits)
+end-at-requires c κs = let e : tie.Else1 = search in omega (arith, formed (e .before .well-formed .ensures) (e .if1 .left) .fits)
 
 returns-3 : tie.Need-returns-3
-returns-3 c = told (c .before .before .before .before .well-formed .ensures) (not-false _ (c .before .before .before .if1 .left)) (some _) (λ t. ap₂ (λ (s e : _). some (row s e)) (c .before .start-at .ensures) (c .end-at .ensures) ∙ get-row _ _ _ (t .fits) (omega arith))
+returns-3 c =
+    let e : tie.Else1 = search in
+    told (e .before .well-formed .ensures) (e .if1 .left) (some _) (λ t. ap₂ (λ (s e : _). some (row s e)) (c .before .start-at .ensures) (c .end-at .ensures) ∙ get-row _ _ _ (t .fits) (omega arith))
 
 pub get-spec : {M : Type 1} → statement M
 get-spec =
     tie.close
-    (tie.spec well-formed-requires returns returns-2 start-at-requires end-at-requires returns-3)
+    (tie.spec (λ c κs. search needs) returns returns-2 start-at-requires end-at-requires returns-3)

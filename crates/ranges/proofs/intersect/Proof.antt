@@ -1,48 +1,37 @@
 use Rattle.tables.proofs.Sets.{intersection-means}
-use Rattle.ranges.proofs.Writing.{refuses-both, finished}
-use native.Mathlib.Omega.{arith}
-use borrow.Author.Tests.{not-true, not-false}
+use Rattle.ranges.proofs.Writing.{refuses-both, both-asks, finished}
 use borrow.Author.Needs.{needs}
 use Rattle.ranges.proofs.intersect.Statement.{statement}
 use Rattle.ranges.proofs.intersect.Tie as tie
 
-both-requires : tie.Need-both-requires
-both-requires c κs = search needs
-
-zero-requires : tie.Need-zero-requires
-zero-requires c κs = search needs
-
-same-length : tie.Need-same-length
-same-length c = search needs
-
 returns : tie.Need-returns
-returns c = refuses-both _ (c .before .before .before .before .before .both .ensures) (not-true _ (c .before .before .before .before .if1 .taken)) (c .before .before .zero .ensures)
-
-room-requires : tie.Need-room-requires
-room-requires c κs = search needs
+returns c =
+    let z : tie.After-zero = search in
+    let t : tie.Then1 = search in
+    refuses-both _ (t .before .both .ensures) (t .if1 .taken) (z .zero .ensures)
 
 cross-requires : tie.Need-cross-requires
-cross-requires c κs = let p = c .before .before .before .both .ensures .right (not-false _ (c .before .before .if1 .left)) in (p .0, (p .1, omega (arith, c .before .room .ensures)))
-
-finish-requires : tie.Need-finish-requires
-finish-requires c κs = search needs
-
-same-length-2 : tie.Need-same-length-2
-same-length-2 c = search needs
+cross-requires c κs =
+    let r : tie.After-room = search in
+    both-asks _ (r .before .before .both .ensures) (r .before .if1 .left) (r .room .ensures)
 
 returns-2 : tie.Need-returns-2
-returns-2 c = finished intersection-means _ (c .before .before .before .before .before .before .cross .last .1 .1 .1 .1 .0) (c .before .before .before .before .before .before .before .before .before .before .both .ensures .right (not-false _ (c .before .before .before .before .before .before .before .before .before .if1 .left))) (c .before .before .before .before .before .before .before .before .room .ensures) (c .before .before .before .before .before .before .cross .kept .1 .1 .1 .1 .0) (c .before .before .before .before .before .before .cross .ensures) (c .before .before .finish .ensures)
+returns-2 c =
+    let f : tie.After-finish = search in
+    let d : tie.After-cross = search in
+    let r : tie.After-room = search in
+    finished intersection-means _ (d .cross .last .1 .1 .1 .1 .0) (r .before .before .both .ensures) (r .before .if1 .left) (r .room .ensures) (d .cross .kept .1 .1 .1 .1 .0) (d .cross .ensures) (f .finish .ensures)
 
 pub intersect-spec : {M : Type 1} → statement M
 intersect-spec =
     tie.close
     (tie.spec
-    both-requires
-    zero-requires
-    same-length
+    (λ c κs. search needs)
+    (λ c κs. search needs)
+    (λ c. search needs)
     returns
-    room-requires
+    (λ c κs. search needs)
     cross-requires
-    finish-requires
-    same-length-2
+    (λ c κs. search needs)
+    (λ c. search needs)
     returns-2)

@@ -1,21 +1,17 @@
 use mathlib.Core.Bool.{true, false}
-use borrow.Author.Tests.{not-true, not-false}
 use Rattle.ranges.proofs.Asking.{refused, told, empty-yes, empty-no}
 use borrow.Author.Needs.{needs}
 use Rattle.ranges.proofs.is_empty.Statement.{statement}
 use Rattle.ranges.proofs.is_empty.Tie as tie
 
-well-formed-requires : tie.Need-well-formed-requires
-well-formed-requires c κs = search needs
-
 returns : tie.Need-returns
-returns c = refused (c .before .well-formed .ensures) (not-true _ (c .if1 .taken))
+returns c = refused (c .before .well-formed .ensures) (c .if1 .taken)
 
 returns-2 : tie.Need-returns-2
-returns-2 c = told (c .before .before .well-formed .ensures) (not-false _ (c .before .if1 .left)) true (λ _. empty-yes _ _ (c .if2 .taken))
+returns-2 c = let e : tie.Else1 = search in told (e .before .well-formed .ensures) (e .if1 .left) true (λ _. empty-yes _ _ (c .if2 .taken))
 
 returns-3 : tie.Need-returns-3
-returns-3 c = told (c .before .before .well-formed .ensures) (not-false _ (c .before .if1 .left)) false (λ t. empty-no _ _ (t .fits) (c .if2 .left))
+returns-3 c = let e : tie.Else1 = search in told (e .before .well-formed .ensures) (e .if1 .left) false (λ t. empty-no _ _ (t .fits) (c .if2 .left))
 
 pub is-empty-spec : {M : Type 1} → statement M
-is-empty-spec = tie.close (tie.spec well-formed-requires returns returns-2 returns-3)
+is-empty-spec = tie.close (tie.spec (λ c κs. search needs) returns returns-2 returns-3)

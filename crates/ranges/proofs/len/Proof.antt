@@ -1,19 +1,15 @@
 use mathlib.Core.Path.{sym}
-use borrow.Author.Tests.{not-true, not-false}
 use Rattle.ranges.proofs.Asking.{refused, told}
 use Rattle.ranges.proofs.Flat.{length-rows}
 use borrow.Author.Needs.{needs}
 use Rattle.ranges.proofs.len.Statement.{statement}
 use Rattle.ranges.proofs.len.Tie as tie
 
-well-formed-requires : tie.Need-well-formed-requires
-well-formed-requires c κs = search needs
-
 returns : tie.Need-returns
-returns c = refused (c .before .well-formed .ensures) (not-true _ (c .if1 .taken))
+returns c = refused (c .before .well-formed .ensures) (c .if1 .taken)
 
 returns-2 : tie.Need-returns-2
-returns-2 c = told (c .before .well-formed .ensures) (not-false _ (c .if1 .left)) _ (λ t. sym (length-rows _ _ (t .fits)))
+returns-2 c = told (c .before .well-formed .ensures) (c .if1 .left) _ (λ t. sym (length-rows _ _ (t .fits)))
 
 pub len-spec : {M : Type 1} → statement M
-len-spec = tie.close (tie.spec well-formed-requires returns returns-2)
+len-spec = tie.close (tie.spec (λ c κs. search needs) returns returns-2)

@@ -11,50 +11,11 @@ Inv-loop out₀ j k c from to len x₀ out x = Lowered out₀ (2 * j) (2 * c) x 
 abbrev μ-loop : tie.MeasureT-loop
 μ-loop out₀ j k c from to len x₀ out x = 2 * (k - j) - x
 
-mul-from : tie.Need-mul-from Inv-loop μ-loop
-mul-from c = search needs
-
-mul-to : tie.Need-mul-to Inv-loop μ-loop
-mul-to c = search needs
-
-sub-len : tie.Need-sub-len Inv-loop μ-loop
-sub-len c = search needs
-
-mul-len : tie.Need-mul-len Inv-loop μ-loop
-mul-len c = search needs
-
 loop-holds : tie.Need-loop-holds Inv-loop μ-loop
 loop-holds c = (lowered-none _ _ _, omega arith)
 
-add-out : tie.Need-add-out Inv-loop μ-loop
-add-out c = search needs
-
-mul-out : tie.Need-mul-out Inv-loop μ-loop
-mul-out c = search needs
-
-slice-read-out : tie.Need-slice-read-out Inv-loop μ-loop
-slice-read-out c = omega (arith, c .before .before .loop .inv .0 .copied .same)
-
-add-out-2 : tie.Need-add-out-2 Inv-loop μ-loop
-add-out-2 c = search needs
-
-mul-out-2 : tie.Need-mul-out-2 Inv-loop μ-loop
-mul-out-2 c = search needs
-
-slice-write-out : tie.Need-slice-write-out Inv-loop μ-loop
-slice-write-out c = omega (arith, c .before .before .loop .inv .0 .copied .same)
-
-add-x : tie.Need-add-x Inv-loop μ-loop
-add-x c = search needs
-
-loop-less : tie.Need-loop-less Inv-loop μ-loop
-loop-less c = search needs
-
 loop-again : tie.Need-loop-again Inv-loop μ-loop
 loop-again c = (lowered-more (c .before .before .loop .inv .0) (omega arith) (omega arith), omega arith)
-
-same-length : tie.Need-same-length Inv-loop μ-loop
-same-length c = c .before .loop .inv .0 .copied .same
 
 returns : tie.Need-returns Inv-loop μ-loop
 returns c = copied-rows (c .before .loop .inv .0 .copied) (omega arith)
@@ -65,19 +26,19 @@ move-down-spec =
     (tie.spec
     Inv-loop
     μ-loop
-    mul-from
-    mul-to
-    sub-len
-    mul-len
+    (λ c. search needs)
+    (λ c. search needs)
+    (λ c. search needs)
+    (λ c. search needs)
     loop-holds
-    add-out
-    mul-out
-    slice-read-out
-    add-out-2
-    mul-out-2
-    slice-write-out
-    add-x
-    loop-less
+    (λ c. search needs)
+    (λ c. search needs)
+    (λ c. search needs)
+    (λ c. search needs)
+    (λ c. search needs)
+    (λ c. search needs)
+    (λ c. search needs)
+    (λ c. search needs)
     loop-again
-    same-length
+    (λ c. search needs)
     returns)

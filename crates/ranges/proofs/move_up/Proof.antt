@@ -12,38 +12,11 @@ Inv-loop part₀ k w₀ part w = Raised 2 part₀ w (2 * k) part × (w ≤ 2 * k
 abbrev μ-loop : tie.MeasureT-loop
 μ-loop part₀ k w₀ part w = w
 
-mul-w : tie.Need-mul-w Inv-loop μ-loop
-mul-w c = search needs
-
 loop-holds : tie.Need-loop-holds Inv-loop μ-loop
 loop-holds c = (raised-none _ _, omega arith)
 
-sub-next : tie.Need-sub-next Inv-loop μ-loop
-sub-next c = search needs
-
-mul-part : tie.Need-mul-part Inv-loop μ-loop
-mul-part c = search needs
-
-slice-read-part : tie.Need-slice-read-part Inv-loop μ-loop
-slice-read-part c = omega (arith, c .before .before .loop .inv .0 .same)
-
-add-part : tie.Need-add-part Inv-loop μ-loop
-add-part c = search needs
-
-mul-part-2 : tie.Need-mul-part-2 Inv-loop μ-loop
-mul-part-2 c = search needs
-
-slice-write-part : tie.Need-slice-write-part Inv-loop μ-loop
-slice-write-part c = omega (arith, c .before .before .loop .inv .0 .same)
-
-loop-less : tie.Need-loop-less Inv-loop μ-loop
-loop-less c = search needs
-
 loop-again : tie.Need-loop-again Inv-loop μ-loop
 loop-again c = (raised-more _ (c .before .before .loop .inv .0) (omega arith) (omega arith), omega arith)
-
-same-length : tie.Need-same-length Inv-loop μ-loop
-same-length c = c .before .loop .inv .0 .same
 
 returns : tie.Need-returns Inv-loop μ-loop
 returns c = raised-rows {i = 0} (c .before .loop .inv .0) (omega arith)
@@ -54,15 +27,15 @@ move-up-spec =
     (tie.spec
     Inv-loop
     μ-loop
-    mul-w
+    (λ c. search needs)
     loop-holds
-    sub-next
-    mul-part
-    slice-read-part
-    add-part
-    mul-part-2
-    slice-write-part
-    loop-less
+    (λ c. search needs)
+    (λ c. search needs)
+    (λ c. search needs)
+    (λ c. search needs)
+    (λ c. search needs)
+    (λ c. search needs)
+    (λ c. search needs)
     loop-again
-    same-length
+    (λ c. search needs)
     returns)

@@ -1,59 +1,36 @@
-use Rattle.tables.proofs.Uniting.{united-rest, rest-all}
-use Rattle.tables.specs.Inner.Unite.{United}
-use Rattle.ranges.specs.Inner.{rowAt}
-use Rattle.ranges.proofs.Flat.{ruled-links}
-use lib.ListN.{length}
-use native.Mathlib.Omega.{arith}
-use mathlib.Core.Path.{_≡_, _∙_, refl}
+-- The invariant: i rows of the one table and all of the other are taken, and what was put out is their union. Assumes nothing.
 use Prim.Native.Nat.{_-_}
+use native.Mathlib.Omega.{arith}
+use lib.ListN.{length}
 use borrow.Author.Needs.{needs}
+use Rattle.tables.proofs.Uniting.{rest-all}
+use Rattle.ranges.proofs.Uniting.{Uniting, uniting-from, alone-asks, alone-more}
 use Rattle.ranges.proofs.rest.Statement.{statement}
 use Rattle.ranges.proofs.rest.Tie as tie
 
 abbrev Inv-loop : tie.InvT-loop
-Inv-loop a n i0 b m out₀ most k0 e0 i₀ k₀ e₀ out i k e = (length out ≡ length out₀) × United 4294967296 (rowAt a) n i (rowAt b) m m most (rowAt out) k e
+Inv-loop a n i0 b m out₀ most k0 e0 i₀ k₀ e₀ out i k e = Uniting a n b m most (length out₀) out i m k e
 
 abbrev μ-loop : tie.MeasureT-loop
 μ-loop a n i0 b m out₀ most k0 e0 i₀ k₀ e₀ out i k e = n - i
 
 loop-holds : tie.Need-loop-holds Inv-loop μ-loop
-loop-holds c = search needs
-
-start-at-requires : tie.Need-start-at-requires Inv-loop μ-loop
-start-at-requires c κs = search needs
-
-end-at-requires : tie.Need-end-at-requires Inv-loop μ-loop
-end-at-requires c κs = search needs
+loop-holds c = let s : tie.Start Inv-loop μ-loop = search in uniting-from (s .pre .0) (s .pre .1 .0) (s .pre .1 .1 .0) (s .pre .1 .1 .1)
 
 join-requires : tie.Need-join-requires Inv-loop μ-loop
 join-requires c κs =
-    let d = c .before .before .before in
-    let l = d .before in
-    let s = l .before .before .before .before in
-    (omega (arith, l .loop .inv .0, s .pre .1 .1 .0), (l .loop .inv .1 .last, (omega (arith, l .loop .inv .1 .few, s .pre .0 .few, s .pre .1 .0 .few, d .loop-test .taken), (l .loop .inv .1 .most, omega (arith, c .before .before .start-at .ensures, c .before .end-at .ensures, s .pre .0 .ruled _ (d .loop-test .taken) .filled)))))
-
-further-requires : tie.Need-further-requires Inv-loop μ-loop
-further-requires c κs = search needs
-
-add-i : tie.Need-add-i Inv-loop μ-loop
-add-i c = search needs
-
-loop-less : tie.Need-loop-less Inv-loop μ-loop
-loop-less c = search needs
+    let t : tie.In-loop Inv-loop μ-loop = search in
+    alone-asks (t .before .loop .inv) (t .loop-test .taken) (c .before .before .start-at .ensures) (c .before .end-at .ensures)
 
 loop-again : tie.Need-loop-again Inv-loop μ-loop
 loop-again c =
-    let k = c .before .before .before in
-    let d = k .before .before in
-    let l = d .before .before .before in
-    let s = l .before .before .before .before in
-    (k .join .kept .0 ∙ l .loop .inv .0, united-rest _ _ _ _ _ _ (λ _. refl) (λ _. refl) (ruled-links (s .pre .0)) (ruled-links (s .pre .1 .0)) _ _ _ _ _ _ _ _ _ (d .before .before .loop-test .taken) (d .before .start-at .ensures) (d .end-at .ensures) (l .loop .inv .1) (k .join .ensures) (omega (arith, d .end-at .ok)) (c .further .ensures))
-
-same-length : tie.Need-same-length Inv-loop μ-loop
-same-length c = search needs
+    let j : tie.After-join Inv-loop μ-loop = search in
+    let e : tie.After-end-at Inv-loop μ-loop = search in
+    let t : tie.In-loop Inv-loop μ-loop = search in
+    alone-more (t .before .loop .inv) (t .loop-test .taken) (e .before .start-at .ensures) (e .end-at .ensures) (j .join .kept .0) (j .join .ensures) (omega (arith, e .end-at .ok)) (c .further .ensures)
 
 returns : tie.Need-returns Inv-loop μ-loop
-returns c = rest-all (c .loop-test .left) (c .before .loop .inv .1)
+returns c = rest-all (c .loop-test .left) (c .before .loop .inv .united)
 
 pub rest-spec : {M : Type 1} → statement M
 rest-spec =
@@ -62,12 +39,12 @@ rest-spec =
     Inv-loop
     μ-loop
     loop-holds
-    start-at-requires
-    end-at-requires
+    (λ c κs. search needs)
+    (λ c κs. search needs)
     join-requires
-    further-requires
-    add-i
-    loop-less
+    (λ c κs. search needs)
+    (λ c. search needs)
+    (λ c. search needs)
     loop-again
-    same-length
+    (λ c. search needs)
     returns)

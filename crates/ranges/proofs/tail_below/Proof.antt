@@ -5,55 +5,28 @@ use borrow.Author.Needs.{needs}
 use Rattle.ranges.proofs.tail_below.Statement.{statement}
 use Rattle.ranges.proofs.tail_below.Tie as tie
 
-ends-below-requires : tie.Need-ends-below-requires
-ends-below-requires c κs = c .before .before .pre
-
-returns : tie.Need-returns
-returns c = search needs
-
-sub-end-at : tie.Need-sub-end-at
-sub-end-at c = search needs
-
-end-at-requires : tie.Need-end-at-requires
-end-at-requires c κs = omega (arith, c .before .before .pre .0 .fits)
-
-cast-if2 : tie.Need-cast-if2
-cast-if2 c = search needs
-
 returns-2 : tie.Need-returns-2
-returns-2 c = parted-at (c .before .before .before .before .args .n - 1) (omega arith) (omega arith) (omega (arith, c .before .end-at .ensures)) (λ h. absurd (omega arith))
-
-end-at-requires-2 : tie.Need-end-at-requires-2
-end-at-requires-2 c κs = omega (arith, c .before .before .before .before .pre .0 .fits)
-
-cast-if3 : tie.Need-cast-if3
-cast-if3 c = search needs
-
-sub-result : tie.Need-sub-result
-sub-result c = search needs
+returns-2 c = let s : tie.Start = search in parted-at (s .args .n - 1) (omega arith) (omega arith) (omega (arith, c .before .end-at .ensures)) (λ h. absurd (omega arith))
 
 returns-3 : tie.Need-returns-3
-returns-3 c = parted-at (c .before .before .before .before .before .before .args .n - 2) (omega arith) (omega arith) (omega (arith, c .before .end-at2 .ensures)) (λ h. omega (arith, c .before .before .before .end-at .ensures))
-
-ends-below-requires-2 : tie.Need-ends-below-requires-2
-ends-below-requires-2 c κs = c .before .before .before .before .before .before .pre
-
-returns-4 : tie.Need-returns-4
-returns-4 c = search needs
+returns-3 c =
+    let a : tie.After-end-at = search in
+    let s : tie.Start = search in
+    parted-at (s .args .n - 2) (omega arith) (omega arith) (omega (arith, c .before .end-at2 .ensures)) (λ h. omega (arith, a .end-at .ensures))
 
 pub tail-below-spec : {M : Type 1} → statement M
 tail-below-spec =
     tie.close
     (tie.spec
-    ends-below-requires
-    returns
-    sub-end-at
-    end-at-requires
-    cast-if2
+    (λ c κs. search needs)
+    (λ c. search needs)
+    (λ c. search needs)
+    (λ c κs. search needs)
+    (λ c. search needs)
     returns-2
-    end-at-requires-2
-    cast-if3
-    sub-result
+    (λ c κs. search needs)
+    (λ c. search needs)
+    (λ c. search needs)
     returns-3
-    ends-below-requires-2
-    returns-4)
+    (λ c κs. search needs)
+    (λ c. search needs))
