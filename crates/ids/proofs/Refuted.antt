@@ -131,23 +131,22 @@ row-short a o out n (malformed m e f) = absurd (omega (arith, ap (λ (b : Answer
 abbrev one : Slices
 one = three (0 ∷ []) (0 ∷ []) (0 ∷ [])
 
--- nothing without one row is nothing, and one row without nothing is the row: sides swapped, or the intersection or the union in its place, differ
--- both are tables
-no-table : Table nothing
-no-table = record { few = lit≤ tt; joined = tt }
+none-table : Table nothing
+none-table = record { few = lit≤ tt; joined = tt }
 
 some-table : Table some
 some-table = record { few = lit≤ tt; joined = (lit≤ tt, tt, tt) }
 
+-- nothing without one row is nothing, and one row without nothing is the row: sides swapped, or the intersection or the union in its place, differ
 nothing-left : Diffed nothing some one (filled one []) (made.Rows 0)
-nothing-left = done [] (no-table, some-table) (tt, λ c k. ((λ h. absurd h), (λ h. h .0))) (lit≤ tt) refl refl
+nothing-left = done [] (none-table, some-table) (tt, λ c k. ((λ h. absurd h), (λ h. h .0))) (lit≤ tt) refl refl
 
 all-left : Diffed some nothing one (three (7 ∷ []) (0 ∷ []) (1 ∷ [])) (made.Rows 1)
 all-left =
-    done (row 7 0 1 ∷ []) (some-table, no-table) ((lit≤ tt, tt, tt), λ c k. ((λ h. (h, λ z. z)), (λ h. h .0))) (lit≤ tt) refl refl
+    done (row 7 0 1 ∷ []) (some-table, none-table) ((lit≤ tt, tt, tt), λ c k. ((λ h. (h, λ z. z)), (λ h. h .0))) (lit≤ tt) refl refl
 
 nothing-shared : Intersected some nothing one (filled one []) (made.Rows 0)
-nothing-shared = done [] (some-table, no-table) (tt, λ c k. ((λ h. absurd h), (λ h. h .1))) (lit≤ tt) refl refl
+nothing-shared = done [] (some-table, none-table) (tt, λ c k. ((λ h. absurd h), (λ h. h .1))) (lit≤ tt) refl refl
 
 differ : {A : Type 0} → made.Rows 0 ≡ made.Rows 1 → A
 differ e = absurd (let z : _≡_ {A = ℕ} 0 1 = cc in omega arith)

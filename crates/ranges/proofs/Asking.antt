@@ -17,7 +17,7 @@ use Rattle.tables.specs.Inner.Edit.{Parted, ends}
 use Rattle.varint.proofs.Cases.{split}
 use Rattle.tables.proofs.Saying.{says-yes, says-no}
 use Rattle.tables.proofs.Finding.{ends-rise, look-right, look-left, look-at, look-empty}
-use Rattle.ranges.specs.Rows.{Row, Holds, findStart, clockStart, clockEnd, get}
+use Rattle.ranges.specs.Rows.{Holds, findStart, clockStart, clockEnd, get}
 use Rattle.ranges.specs.Tables.{rows, Table}
 use Rattle.ranges.specs.Inner.{rowAt, bare, Ruled}
 use Rattle.ranges.proofs.Plain.{plain, holds-plain}

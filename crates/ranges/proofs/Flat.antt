@@ -9,7 +9,7 @@ use Rattle.tables.specs.Inner.Rows.{span, Follows}
 use Rattle.tables.proofs.Spanning.{Links, unit-links, spanned, length-span, span-on}
 use Rattle.tables.proofs.Closing.{joined-follows}
 use Rattle.tables.proofs.Joining.{row-is}
-use Rattle.ranges.specs.Rows.{Row, Joined}
+use Rattle.ranges.specs.Rows.{Row}
 use Rattle.ranges.specs.Tables.{rows, Table, flat}
 use Rattle.ranges.specs.Inner.{rowAt, rowsOf, Ruled}
 use Rattle.ranges.proofs.Plain.{plain, plain-joined, joined-plain}

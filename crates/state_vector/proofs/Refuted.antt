@@ -16,7 +16,7 @@ use Rattle.varint.specs.declared.Refusal.the-variants.{Full, Malformed}
 use Rattle.varint.specs.declared.Wrote.the-variants as answer
 use Rattle.varint.proofs.Chaining as chaining
 use Rattle.varint.proofs.Chaining.{unput}
-use Rattle.tables.specs.Answers.{done, full, malformed, says, refuses}
+use Rattle.tables.specs.Answers.{done, says, refuses}
 use Rattle.tables.specs.declared.Made.{Made}
 use Rattle.tables.specs.declared.Made.the-variants as made
 use Rattle.tables.proofs.Below.{refusal-leaves}
