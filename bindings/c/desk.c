@@ -11,10 +11,10 @@ static void show(const char *what, const uint32_t *rows, size_t n) {
 int main(void) {
     const uint32_t a[] = {0, 3, 8, 9}, b[] = {3, 8, 12, 15}, bad[] = {2, 5, 5, 7};
     uint32_t out[8];
-    iz_rows r = iz_ranges_merge(a, 4, 2, b, 4, 2, out, 8);
+    iz_made r = iz_ranges_merge(a, 4, 2, b, 4, 2, out, 8);
     if (r.no != IZ_DONE) return 1;
     show("[0..3, 8..9] and [3..8, 12..15]", out, r.count);
-    iz_yes_no in = iz_ranges_contains_clock(out, 8, r.count, 14);
+    iz_told in = iz_ranges_contains_clock(out, 8, r.count, 14);
     printf("clock 14 is %s\n", in.value ? "in" : "out");
     r = iz_ranges_insert(out, 8, r.count, 9, 12, (uint32_t[8]){0}, 8);
     printf("with 9..12 put in: %zu row\n", r.count);
@@ -36,7 +36,7 @@ int main(void) {
     printf("captured where one slice has one element: refusal %u\n", r.no);
 
     uint8_t bytes[10];
-    iz_place w = iz_write_u64(300, bytes, sizeof bytes, 0);
+    iz_wrote w = iz_write_u64(300, bytes, sizeof bytes, 0);
     iz_number v = iz_read_u64(bytes, w.next, 0);
     printf("300 in %zu bytes, %02X %02X, reads %llu\n", w.next, bytes[0], bytes[1], (unsigned long long)v.value);
     if (v.value != 300 || v.next != w.next) return 1;
@@ -48,7 +48,7 @@ int main(void) {
     w = iz_vector_encode(clients, 2, clocks, 2, 2, bytes, sizeof bytes, 0);
     printf("a vector:");
     for (size_t i = 0; i < w.next; i++) printf(" %02X", bytes[i]);
-    iz_vector d = iz_vector_decode(bytes, w.next, 0, to_clients, 2, to_clocks, 2);
+    iz_decoded d = iz_vector_decode(bytes, w.next, 0, to_clients, 2, to_clocks, 2);
     printf(", %zu rows, the last %llu: %u\n", d.count, (unsigned long long)to_clients[1], to_clocks[1]);
     printf("the same cut short: refusal %u\n", iz_vector_decode(bytes, w.next - 1, 0, to_clients, 2, to_clocks, 2).no);
     return 0;

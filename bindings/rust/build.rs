@@ -1,5 +1,5 @@
 //! Finds the proved archive and writes the boundary's declarations, made from its own source.
-//! IZGARMULF_LIB names the folder of libffi.a; without it, target/staticlib of this repository.
+//! IZGARMULF_LIB names the folder of libffi.a; without it, the one that bindings/archive writes.
 use std::{env, fs, path::PathBuf, process::exit};
 
 include!("../boundary.rs");
@@ -10,16 +10,12 @@ fn main() {
     println!("cargo:rerun-if-changed=build.rs");
     println!("cargo:rerun-if-changed=../boundary.rs");
     println!("cargo:rerun-if-env-changed=IZGARMULF_LIB");
-    let dir = env::var("IZGARMULF_LIB").map_or(root.join("target/staticlib"), PathBuf::from);
+    let processor = env::var("CARGO_CFG_TARGET_ARCH").unwrap();
+    let dir = env::var("IZGARMULF_LIB").map_or(root.join(if processor == "x86_64" { "target/staticlib".into() } else { format!("target/staticlib/{processor}") }), PathBuf::from);
     let lib = dir.join("libffi.a");
     println!("cargo:rerun-if-changed={}", lib.display());
     if !lib.is_file() {
-        eprintln!("The proved library is missing: there is no {}.\nIn the root of the repository, run: rt staticlib ffi\nOr let IZGARMULF_LIB name the folder of a libffi.a.", lib.display());
-        exit(1);
-    }
-    let processor = env::var("CARGO_CFG_TARGET_ARCH").unwrap();
-    if processor != "x86_64" {
-        eprintln!("The proved library is x86-64 code, and this build is for {processor}: it can't be linked.\nBuild for x86_64-unknown-linux-gnu.");
+        eprintln!("The proved library is missing: there is no {}.\nIn the root of the repository, run: bindings/archive ffi\nOr let IZGARMULF_LIB name the folder of a libffi.a for {processor}.", lib.display());
         exit(1);
     }
     println!("cargo:rustc-link-search=native={}", dir.display());

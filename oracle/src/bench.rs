@@ -73,7 +73,7 @@ fn our_op(op: usize, a: &[u32], b: &[u32], out: &mut [u32]) -> usize {
 }
 
 type Bare = extern "C" fn(*const u8, usize, usize) -> Number;
-type Put = extern "C" fn(u64, *mut u8, usize, usize) -> Place;
+type Put = extern "C" fn(u64, *mut u8, usize, usize) -> Wrote;
 #[inline(never)]
 extern "C" fn one_byte(b: *const u8, _: usize, at: usize) -> Number { Number { no: 0, value: unsafe { *b.add(at) } as u64, next: at + 1 } }
 #[inline(never)]
@@ -82,7 +82,7 @@ extern "C" fn short_first(b: *const u8, len: usize, at: usize) -> Number {
     match s.get(at) { Some(&x) if x < 128 => Number { no: 0, value: x as u64, next: at + 1 }, _ => iz_read_u64(s, at) }
 }
 #[inline(never)]
-extern "C" fn put_byte(v: u64, b: *mut u8, _: usize, at: usize) -> Place { unsafe { *b.add(at) = v as u8 } Place { no: 0, next: at + 1 } }
+extern "C" fn put_byte(v: u64, b: *mut u8, _: usize, at: usize) -> Wrote { unsafe { *b.add(at) = v as u8 } Wrote { no: 0, next: at + 1 } }
 
 impl Bench {
     // ---- numbers

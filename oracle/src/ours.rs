@@ -69,14 +69,14 @@ mod linked {
         Answer { no: p.no, next: p.next, bytes, ..Answer::default() }
     }
 
-    fn yes(r: YesNo) -> Answer { Answer { no: r.no, some: r.value, ..Answer::default() } }
-    fn count(r: Count) -> Answer { Answer { no: r.no, value: r.value as u64, ..Answer::default() } }
-    fn index(r: Index) -> Answer { Answer { no: r.no, some: r.some, value: r.value as u64, ..Answer::default() } }
-    fn bound(r: Bound) -> Answer { Answer { no: r.no, some: r.some, value: r.value as u64, ..Answer::default() } }
-    fn row(r: Row) -> Answer { Answer { no: r.no, some: r.some, value: r.start as u64, second: r.end as u64, ..Answer::default() } }
+    fn told(r: Told) -> Answer { Answer { no: r.no, some: r.value, ..Answer::default() } }
+    fn counted(r: Counted) -> Answer { Answer { no: r.no, value: r.value as u64, ..Answer::default() } }
+    fn place(r: Place) -> Answer { Answer { no: r.no, some: r.some, value: r.value as u64, ..Answer::default() } }
+    fn edge(r: Edge) -> Answer { Answer { no: r.no, some: r.some, value: r.value as u64, ..Answer::default() } }
+    fn found(r: Found) -> Answer { Answer { no: r.no, some: r.some, value: r.start as u64, second: r.end as u64, ..Answer::default() } }
 
     /// The output with every element of its slices, and the count.
-    fn table(c: &Case, f: impl FnOnce(&mut Table) -> Rows) -> Answer {
+    fn table(c: &Case, f: impl FnOnce(&mut Table) -> Made) -> Answer {
         let mut out = c.out.clone();
         let r = f(&mut out);
         out.n = r.count;
@@ -87,13 +87,13 @@ mod linked {
         let (t, n, b, m) = (&c.a.ints[..], c.a.n, &c.b.ints[..], c.b.n);
         let clock = c.start as u32;
         match c.op {
-            Contains => yes(iz_ranges_contains_clock(t, n, clock)),
-            FindStart => index(iz_ranges_find_start(t, n, clock)),
-            ClockStart => bound(iz_ranges_clock_start(t, n)),
-            ClockEnd => bound(iz_ranges_clock_end(t, n)),
-            Len => count(iz_ranges_len(t, n)),
-            IsEmpty => yes(iz_ranges_is_empty(t, n)),
-            Get => row(iz_ranges_get(t, n, c.start as usize)),
+            Contains => told(iz_ranges_contains_clock(t, n, clock)),
+            FindStart => place(iz_ranges_find_start(t, n, clock)),
+            ClockStart => edge(iz_ranges_clock_start(t, n)),
+            ClockEnd => edge(iz_ranges_clock_end(t, n)),
+            Len => counted(iz_ranges_len(t, n)),
+            IsEmpty => told(iz_ranges_is_empty(t, n)),
+            Get => found(iz_ranges_get(t, n, c.start as usize)),
             Insert => table(c, |o| iz_ranges_insert(t, n, clock, c.end, &mut o.ints)),
             Remove => table(c, |o| iz_ranges_remove(t, n, clock, c.end, &mut o.ints)),
             Merge => table(c, |o| iz_ranges_merge(t, n, b, m, &mut o.ints)),
@@ -111,12 +111,12 @@ mod linked {
         let clock = c.start as u32;
         match c.op {
             IdInsert => table(c, |o| iz_ids_insert_range(x, y, z, n, c.client, clock, c.end, &mut o.longs, &mut o.ints, &mut o.more)),
-            IdContains => yes(iz_ids_contains(x, y, z, n, c.client, clock)),
+            IdContains => told(iz_ids_contains(x, y, z, n, c.client, clock)),
             IdMerge => table(c, |o| iz_ids_merge(x, y, z, n, p, q, r, m, &mut o.longs, &mut o.ints, &mut o.more)),
             IdDiff => table(c, |o| iz_ids_diff(x, y, z, n, p, q, r, m, &mut o.longs, &mut o.ints, &mut o.more)),
             IdIntersect => table(c, |o| iz_ids_intersect(x, y, z, n, p, q, r, m, &mut o.longs, &mut o.ints, &mut o.more)),
-            IdIsEmpty => yes(iz_ids_is_empty(x, y, z, n)),
-            IdLen => count(iz_ids_len(x, y, z, n)),
+            IdIsEmpty => told(iz_ids_is_empty(x, y, z, n)),
+            IdLen => counted(iz_ids_len(x, y, z, n)),
             IdCapture => table(c, |o| iz_ids_capture(x, y, z, n, &mut o.longs, &mut o.ints, &mut o.more)),
             _ => unreachable!(),
         }

@@ -18,13 +18,13 @@
 use crate::{done, sys, ClientID, Refusal};
 use std::ops::Range;
 
-fn rows(r: sys::Rows) -> Result<usize, Refusal> {
+fn made(r: sys::Made) -> Result<usize, Refusal> {
     done(r.no).map(|_| r.count)
 }
-fn yes_no(r: sys::YesNo) -> Result<bool, Refusal> {
+fn told(r: sys::Told) -> Result<bool, Refusal> {
     done(r.no).map(|_| r.value)
 }
-fn count(r: sys::Count) -> Result<usize, Refusal> {
+fn counted(r: sys::Counted) -> Result<usize, Refusal> {
     done(r.no).map(|_| r.value)
 }
 
@@ -34,7 +34,7 @@ pub mod ranges {
 
     /// Whether a clock is in the table.
     pub fn contains_clock(t: &[u32], n: usize, clock: u32) -> Result<bool, Refusal> {
-        yes_no(sys::iz_ranges_contains_clock(t, n, clock))
+        told(sys::iz_ranges_contains_clock(t, n, clock))
     }
     /// The first row whose end exceeds the clock.
     pub fn find_start(t: &[u32], n: usize, clock: u32) -> Result<Option<usize>, Refusal> {
@@ -53,11 +53,11 @@ pub mod ranges {
     }
     /// How many rows.
     pub fn len(t: &[u32], n: usize) -> Result<usize, Refusal> {
-        count(sys::iz_ranges_len(t, n))
+        counted(sys::iz_ranges_len(t, n))
     }
     /// Whether there is no row.
     pub fn is_empty(t: &[u32], n: usize) -> Result<bool, Refusal> {
-        yes_no(sys::iz_ranges_is_empty(t, n))
+        told(sys::iz_ranges_is_empty(t, n))
     }
     /// The row at an index.
     pub fn get(t: &[u32], n: usize, index: usize) -> Result<Option<Range<u32>>, Refusal> {
@@ -66,27 +66,27 @@ pub mod ranges {
     }
     /// The table with a range put in; an empty range changes nothing.
     pub fn insert(t: &[u32], n: usize, range: Range<u32>, out: &mut [u32]) -> Result<usize, Refusal> {
-        rows(sys::iz_ranges_insert(t, n, range.start, range.end, out))
+        made(sys::iz_ranges_insert(t, n, range.start, range.end, out))
     }
     /// The table with a range taken out.
     pub fn remove(t: &[u32], n: usize, range: Range<u32>, out: &mut [u32]) -> Result<usize, Refusal> {
-        rows(sys::iz_ranges_remove(t, n, range.start, range.end, out))
+        made(sys::iz_ranges_remove(t, n, range.start, range.end, out))
     }
     /// The clocks of either table.
     pub fn merge(a: &[u32], n: usize, b: &[u32], m: usize, out: &mut [u32]) -> Result<usize, Refusal> {
-        rows(sys::iz_ranges_merge(a, n, b, m, out))
+        made(sys::iz_ranges_merge(a, n, b, m, out))
     }
     /// The clocks of the first table that are not in the second.
     pub fn exclude(a: &[u32], n: usize, b: &[u32], m: usize, out: &mut [u32]) -> Result<usize, Refusal> {
-        rows(sys::iz_ranges_exclude(a, n, b, m, out))
+        made(sys::iz_ranges_exclude(a, n, b, m, out))
     }
     /// The clocks of both tables.
     pub fn intersect(a: &[u32], n: usize, b: &[u32], m: usize, out: &mut [u32]) -> Result<usize, Refusal> {
-        rows(sys::iz_ranges_intersect(a, n, b, m, out))
+        made(sys::iz_ranges_intersect(a, n, b, m, out))
     }
     /// The table of the first n start, end pairs of a slice, put in one after the other; empty ranges are allowed.
     pub fn from_ranges(list: &[u32], n: usize, out: &mut [u32]) -> Result<usize, Refusal> {
-        rows(sys::iz_ranges_from_ranges(list, n, out))
+        made(sys::iz_ranges_from_ranges(list, n, out))
     }
 }
 
@@ -133,35 +133,35 @@ pub mod ids {
 
     /// The table with a client's range put in; an empty range changes nothing.
     pub fn insert_range(t: Rows, client: ClientID, range: Range<u32>, out: Out) -> Result<usize, Refusal> {
-        rows(sys::iz_ids_insert_range(t.clients, t.starts, t.ends, t.count, client.get(), range.start, range.end, out.clients, out.starts, out.ends))
+        made(sys::iz_ids_insert_range(t.clients, t.starts, t.ends, t.count, client.get(), range.start, range.end, out.clients, out.starts, out.ends))
     }
     /// Whether an id is in the table.
     pub fn contains(t: Rows, client: ClientID, clock: u32) -> Result<bool, Refusal> {
-        yes_no(sys::iz_ids_contains(t.clients, t.starts, t.ends, t.count, client.get(), clock))
+        told(sys::iz_ids_contains(t.clients, t.starts, t.ends, t.count, client.get(), clock))
     }
     /// The ids of either table.
     pub fn merge(a: Rows, b: Rows, out: Out) -> Result<usize, Refusal> {
-        rows(sys::iz_ids_merge(a.clients, a.starts, a.ends, a.count, b.clients, b.starts, b.ends, b.count, out.clients, out.starts, out.ends))
+        made(sys::iz_ids_merge(a.clients, a.starts, a.ends, a.count, b.clients, b.starts, b.ends, b.count, out.clients, out.starts, out.ends))
     }
     /// The ids of the first table that are not in the second.
     pub fn diff(a: Rows, b: Rows, out: Out) -> Result<usize, Refusal> {
-        rows(sys::iz_ids_diff(a.clients, a.starts, a.ends, a.count, b.clients, b.starts, b.ends, b.count, out.clients, out.starts, out.ends))
+        made(sys::iz_ids_diff(a.clients, a.starts, a.ends, a.count, b.clients, b.starts, b.ends, b.count, out.clients, out.starts, out.ends))
     }
     /// The ids of both tables.
     pub fn intersect(a: Rows, b: Rows, out: Out) -> Result<usize, Refusal> {
-        rows(sys::iz_ids_intersect(a.clients, a.starts, a.ends, a.count, b.clients, b.starts, b.ends, b.count, out.clients, out.starts, out.ends))
+        made(sys::iz_ids_intersect(a.clients, a.starts, a.ends, a.count, b.clients, b.starts, b.ends, b.count, out.clients, out.starts, out.ends))
     }
     /// An unchanged copy.
     pub fn capture(t: Rows, out: Out) -> Result<usize, Refusal> {
-        rows(sys::iz_ids_capture(t.clients, t.starts, t.ends, t.count, out.clients, out.starts, out.ends))
+        made(sys::iz_ids_capture(t.clients, t.starts, t.ends, t.count, out.clients, out.starts, out.ends))
     }
     /// Whether there is no row.
     pub fn is_empty(t: Rows) -> Result<bool, Refusal> {
-        yes_no(sys::iz_ids_is_empty(t.clients, t.starts, t.ends, t.count))
+        told(sys::iz_ids_is_empty(t.clients, t.starts, t.ends, t.count))
     }
     /// How many clients.
     pub fn len(t: Rows) -> Result<usize, Refusal> {
-        count(sys::iz_ids_len(t.clients, t.starts, t.ends, t.count))
+        counted(sys::iz_ids_len(t.clients, t.starts, t.ends, t.count))
     }
 }
 

@@ -26,10 +26,10 @@ abbrev pub one : ℕ → Held
 one e = record { slices = lent 7 e; count = 1 }
 
 empty-table : Table empty
-empty-table = (omega arith, tt)
+empty-table = record { few = omega arith; joined = tt }
 
 one-table : (e : ℕ) → 0 < e → Table (one e)
-one-table e h = (lit≤ tt, (h, tt, tt))
+one-table e h = record { few = lit≤ tt; joined = (h, tt, tt) }
 
 pub one-of : (e : ℕ) → 0 < e → TableOf (Holds (row 7 0 e ∷ [])) (row 7 0 e ∷ [])
 one-of e h = ((h, tt, tt), λ c k. (λ x. x, λ x. x))

@@ -13,13 +13,13 @@ front : (t : List Row) (xs ys zs : List ℕ) → rowsOf (length t) (map (λ (r :
 front [] xs ys zs = refl
 front (r ∷ rs) xs ys zs = ap (λ (l : List Row). r ∷ l) (front rs xs ys zs)
 
-pub rows-filled : (t : List Row) (o : Slices) → rows (record { slices = filled t o; count = length t }) ≡ t
+pub rows-filled : (t : List Row) (o : Slices) → rows (record { slices = filled o t; count = length t }) ≡ t
 rows-filled t o = front t _ _ _
 
 padded-length : (n : ℕ) (t : List Row) (f : Row → ℕ) → length t ≤ n → length (padded n (map f t)) ≡ n
 padded-length n t f h = simp (length-append, length-replicate, length-map) (omega arith)
 
-pub most-filled : (t : List Row) (o : Slices) → length t ≤ most o → most (filled t o) ≡ most o
+pub most-filled : (t : List Row) (o : Slices) → length t ≤ most o → most (filled o t) ≡ most o
 most-filled t o h =
     rw (
       padded-length (length (o .clients)) t (λ (r : Row). r .client) (omega arith),
@@ -28,5 +28,5 @@ most-filled t o h =
     )
 
 -- so it is a well formed table
-pub table-filled : (t : List Row) (o : Slices) → Joined t → length t ≤ most o → Table (record { slices = filled t o; count = length t })
-table-filled t o j h = (rw (most-filled t o h) h, subst Joined (sym (rows-filled t o)) j)
+pub table-filled : (t : List Row) (o : Slices) → Joined t → length t ≤ most o → Table (record { slices = filled o t; count = length t })
+table-filled t o j h = record { few = rw (most-filled t o h) h; joined = subst Joined (sym (rows-filled t o)) j }

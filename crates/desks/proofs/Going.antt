@@ -22,8 +22,8 @@ use Rattle.desks.proofs.Ordering.{table-of}
 -- where the right table is there, so is an answer
 made : {ok : Type 0} {right : List Row → Type 0} (o : Slices) → ok → (t : List Row) → right t → (a : Made) × (out : Slices) × Writes ok right o out a
 made o k t r = elim (decLe (length t) (most o)) [
-  | yes l ↦ (Rows (length t), filled t o, done t k r l refl refl)
-  | no l ↦ (Refused Full, filled [] o, full t k r (omega arith) refl refl)
+  | yes l ↦ (Rows (length t), filled o t, done t k r l refl refl)
+  | no l ↦ (Refused Full, filled o [], full t k r (omega arith) refl refl)
 ]
 
 with-row : (r : Row) (l t : List Row) → TableOf (Holds (r ∷ l)) t → TableOf (λ c k. Holds l c k ⊎ Within r c k) t

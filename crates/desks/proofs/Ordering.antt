@@ -202,10 +202,10 @@ most-spare : (n : ℕ) → n ≤ rowLimit → most (spare n) ≡ n
 most-spare n h = simp length-replicate (omega arith)
 
 abbrev kept : List Row → ℕ → Held
-kept u n = record { slices = filled u (spare n); count = length u }
+kept u n = record { slices = filled (spare n) u; count = length u }
 
 inserted : (r : Row) (t : List Row) (f : Front r t) (n : ℕ) → Joined t → length (f .list) ≤ n → n ≤ rowLimit
-    → Inserted (kept t n) r (spare n) (filled (f .list) (spare n)) (Rows (length (f .list)))
+    → Inserted (kept t n) r (spare n) (filled (spare n) (f .list)) (Rows (length (f .list)))
 inserted r t f n j l m =
     let e : most (spare n) ≡ n = most-spare n m in
     done (f .list) (table-filled t (spare n) j (rw e (omega (arith, f .longer))))
@@ -269,11 +269,11 @@ module _ (log : List Event) (w : Place → Held) (run : Run stated log w) (d : �
       let h : Held = w (desk d) in
       let g = demand log w run d in
       let e = ap length (g .one (way .list) (same-table (ranges .list) (reached log (desk d)) (way .list) (ranges .members) (way .holds))) in
-      omega (arith, length-rows (h .count) _ _ _ (fit (h .count) (h .slices .clients) (h .slices .starts) (h .slices .ends) (omega (arith, g .table .0))))
+      omega (arith, length-rows (h .count) _ _ _ (fit (h .count) (h .slices .clients) (h .slices .starts) (h .slices .ends) (omega (arith, g .table .few))))
 
 pub some-order : SomeOrder stated
 some-order log w run d =
     let o = ranges log w run d in
     let t = way log w run d in
     let n = length (t .list) in
-    (o .list, o .members, t .none (w (desk d) .count) (no-longer log w run d), kept (t .list) n, t .alone n (le-refl n) (omega (arith, no-longer log w run d, demand log w run d .table .0)))
+    (o .list, o .members, t .none (w (desk d) .count) (no-longer log w run d), kept (t .list) n, t .alone n (le-refl n) (omega (arith, no-longer log w run d, demand log w run d .table .few)))

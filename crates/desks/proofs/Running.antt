@@ -23,19 +23,19 @@ pub record Good (h : Held) (l : List Row) : Type 0 where
   pub ids : (c k : ℕ) → Holds (rows h) c k ↔ Holds l c k
 
 pub good-table : (h : Held) (l : List Row) → Good h l → TableOf (Holds l) (rows h)
-good-table h l g = (g .table .1, g .ids)
+good-table h l g = (g .table .joined, g .ids)
 
 -- an empty place
 none : (h : Held) → h .count ≡ 0 → Good h []
 none h e =
     let r : rows h ≡ [] = ap (λ (n : ℕ). rowsOf n (h .slices .clients) (h .slices .starts) (h .slices .ends)) e in
-    record { table = (omega arith, subst⁻¹ Joined r tt); ids = λ c k. (λ x. subst (λ (l : List Row). Holds l c k) r x, λ y. absurd y) }
+    record { table = record { few = omega arith; joined = subst⁻¹ Joined r tt }; ids = λ c k. (λ x. subst (λ (l : List Row). Holds l c k) r x, λ y. absurd y) }
 
 -- what an accepted call leaves
 left-good : (l : List Row) (o out : Slices) (n : ℕ) → Left (TableOf (Holds l)) o out n → Good (record { slices = out; count = n }) l
 left-good l o out n h =
     let t : List Row = h .table in
-    let p : _≡_ {A = Held} (record { slices = filled t o; count = length t }) (record { slices = out; count = n }) = λ i. record { slices = sym (h .fills) i; count = sym (h .counted) i } in
+    let p : _≡_ {A = Held} (record { slices = filled o t; count = length t }) (record { slices = out; count = n }) = λ i. record { slices = sym (h .fills) i; count = sym (h .counted) i } in
     subst (λ (x : Held). Good x l) p
     (record { table = table-filled t o (h .holds .0) (h .fit); ids = λ c k. subst⁻¹ (λ (u : List Row). Holds u c k ↔ Holds l c k) (rows-filled t o) (h .holds .1 c k) })
 

@@ -7,47 +7,21 @@ use native.Mathlib.Omega.{arith}
 use borrow.Author.Tests.{leb-true, leb-false}
 use lib.Dec.{leb}
 use lib.ListN.{length}
-use Rattle.varint.specs.Answer.{noOf}
-use Rattle.varint.specs.declared.Refusal.{Refusal}
-use Rattle.varint.specs.declared.Refusal.the-variants.{End, Long, Range, Full, Malformed, Sign}
-use Rattle.tables.specs.Answers.{Answer, answer, saidMade, Gives, done, full, malformed}
+use Rattle.varint.specs.declared.Refusal.the-variants.{Full, Malformed}
+use Rattle.tables.specs.Answers.{Answer, saidMade, Gives, done, full, malformed}
 use Rattle.tables.specs.declared.Made.{Made}
 use Rattle.tables.specs.declared.Made.the-variants.{Rows, Refused}
+use Rattle.tables.proofs.Viewing.{made-same}
 use Rattle.ids.specs.Rows.{Row}
 use Rattle.ids.specs.Tables.{Slices, most, filled}
 use Rattle.desks.specs.Runs.{choose}
 use Rattle.desks.specs.Demand.{fitting}
-
--- no refusal has number 0, and one has number 4
-no-zero : (x : Refusal) → noOf x ≡ 0 → ⊥
-no-zero End e = omega arith
-no-zero Long e = omega arith
-no-zero Range e = omega arith
-no-zero Full e = omega arith
-no-zero Malformed e = omega arith
-no-zero Sign e = omega arith
-
-is-full : (x : Refusal) → noOf x ≡ 4 → x ≡ Full
-is-full End e = absurd (omega arith)
-is-full Long e = absurd (omega arith)
-is-full Range e = absurd (omega arith)
-is-full Full e = refl
-is-full Malformed e = absurd (omega arith)
-is-full Sign e = absurd (omega arith)
 
 no-of : {a b : Answer ℕ} → a ≡ b → a .no ≡ b .no
 no-of e = ap (λ (x : Answer ℕ). x .no) e
 
 value-of : {a b : Answer ℕ} → a ≡ b → a .value ≡ b .value
 value-of e = ap (λ (x : Answer ℕ). x .value) e
-
-said-done : (a : Made) (n : ℕ) → saidMade a ≡ answer 0 n → a ≡ Rows n
-said-done (Rows m) n e = ap Rows (value-of e)
-said-done (Refused x) n e = absurd (no-zero x (no-of e))
-
-said-full : (a : Made) → saidMade a ≡ answer 4 0 → a ≡ Refused Full
-said-full (Rows m) e = let z : _≡_ {A = ℕ} 0 4 = no-of e in absurd (omega arith)
-said-full (Refused x) e = ap Refused (is-full x (no-of e))
 
 pub fits : (n m : ℕ) → n ≤ m → fitting n m ≡ Rows n
 fits n m h = go (leb n m) refl where
@@ -69,7 +43,7 @@ no-malformed n m = go (leb n m) where
 
 -- a call whose input tables are well formed, and whose right result is `right`
 abbrev pub Brings : (List Row → Type 0) → Slices → Slices → Made → Type 0
-Brings right o out a = Gives (Unit {0}) right (most o) (λ t. filled t o) out (saidMade a)
+Brings right o out a = Gives (Unit {0}) right (most o) (filled o) out (saidMade a)
 
 pub brings-of : {ok : Type 0} {right right′ : List Row → Type 0} {m : ℕ} {fill : List Row → Slices} {out : Slices} {a : Answer ℕ} → ok
     → ((t : List Row) → right t → right′ t) → Gives ok right m fill out a → Gives (Unit {0}) right′ m fill out a
@@ -79,8 +53,8 @@ brings-of k f (malformed n e p) = absurd (n k)
 
 pub brings-answer : {right : List Row → Type 0} (o out : Slices) (a : Made) → Brings right o out a
     → (t : List Row) × right t × (a ≡ fitting (length t) (most o))
-brings-answer o out a (done t _ r l e p) = (t, r, said-done a (length t) e ∙ sym (fits (length t) (most o) l))
-brings-answer o out a (full t _ r l e p) = (t, r, said-full a e ∙ sym (past (length t) (most o) l))
+brings-answer o out a (done t _ r l e p) = (t, r, made-same a (Rows (length t)) e ∙ sym (fits (length t) (most o) l))
+brings-answer o out a (full t _ r l e p) = (t, r, made-same a (Refused Full) e ∙ sym (past (length t) (most o) l))
 brings-answer o out a (malformed n e p) = absurd (n tt)
 
 -- an accepted call left the right table
@@ -89,7 +63,7 @@ pub record Left (right : List Row → Type 0) (o out : Slices) (n : ℕ) : Type 
   pub holds : right table
   pub fit : length table ≤ most o
   pub counted : n ≡ length table
-  pub fills : out ≡ filled table o
+  pub fills : out ≡ filled o table
 
 pub brings-left : {right : List Row → Type 0} (o out : Slices) (n : ℕ) → Brings right o out (Rows n) → Left right o out n
 brings-left o out n (done t _ r l e p) = record { table = t; holds = r; fit = l; counted = value-of e; fills = p }

@@ -29,89 +29,89 @@ use Rattle.state_vector.specs.declared.Order.{Order}
 use Rattle.state_vector.specs.declared.Order.the-variants as order
 use Rattle.state_vector.specs.declared.Decoded.{Decoded}
 use Rattle.state_vector.specs.declared.Decoded.the-variants as decoded
-use Rattle.ffi.specs.declared.Place as boundary
-use Rattle.ffi.specs.Inner.{Placed}
-use Rattle.ffi.specs.Boundary.{asRows, asYesNo, asCount, asIndex, asBound, asRow, asValue, asVerdict, asVector, placed}
+use Rattle.ffi.specs.declared.Wrote as boundary
+use Rattle.ffi.specs.Inner.{Carries}
+use Rattle.ffi.specs.Boundary.{asMade, asTold, asCounted, asPlace, asEdge, asFound, asGot, asOrder, asDecoded, written}
 
-pub rows-done : {r : Made} {n : ℕ} → r ≡ made.Rows n → asRows r ≡ record { no = 0; count = n }
-rows-done e = rw e
+pub made-rows : {r : Made} {n : ℕ} → r ≡ made.Rows n → asMade r ≡ record { no = 0; count = n }
+made-rows e = rw e
 
-pub rows-refused : {r : Made} {e : Refusal} {k : ℕ} → r ≡ made.Refused e → k ≡ noOf e → asRows r ≡ record { no = k; count = 0 }
-rows-refused e q = rw (q, e)
+pub made-refused : {r : Made} {e : Refusal} {k : ℕ} → r ≡ made.Refused e → k ≡ noOf e → asMade r ≡ record { no = k; count = 0 }
+made-refused e q = rw (q, e)
 
-pub told-yes : {r : Told} → r ≡ told.Yes → asYesNo r ≡ record { no = 0; value = true }
+pub told-yes : {r : Told} → r ≡ told.Yes → asTold r ≡ record { no = 0; value = true }
 told-yes e = rw e
 
-pub told-no : {r : Told} → r ≡ told.No → asYesNo r ≡ record { no = 0; value = false }
+pub told-no : {r : Told} → r ≡ told.No → asTold r ≡ record { no = 0; value = false }
 told-no e = rw e
 
-pub told-refused : {r : Told} {e : Refusal} {k : ℕ} → r ≡ told.Refused e → k ≡ noOf e → asYesNo r ≡ record { no = k; value = false }
+pub told-refused : {r : Told} {e : Refusal} {k : ℕ} → r ≡ told.Refused e → k ≡ noOf e → asTold r ≡ record { no = k; value = false }
 told-refused e q = rw (q, e)
 
-pub count-done : {r : Counted} {n : ℕ} → r ≡ counted.Is n → asCount r ≡ record { no = 0; value = n }
-count-done e = rw e
+pub counted-is : {r : Counted} {n : ℕ} → r ≡ counted.Is n → asCounted r ≡ record { no = 0; value = n }
+counted-is e = rw e
 
-pub count-refused : {r : Counted} {e : Refusal} {k : ℕ} → r ≡ counted.Refused e → k ≡ noOf e → asCount r ≡ record { no = k; value = 0 }
-count-refused e q = rw (q, e)
+pub counted-refused : {r : Counted} {e : Refusal} {k : ℕ} → r ≡ counted.Refused e → k ≡ noOf e → asCounted r ≡ record { no = k; value = 0 }
+counted-refused e q = rw (q, e)
 
-pub index-at : {r : Place} {i : ℕ} → r ≡ place.At i → asIndex r ≡ record { no = 0; some = true; value = i }
-index-at e = rw e
+pub place-at : {r : Place} {i : ℕ} → r ≡ place.At i → asPlace r ≡ record { no = 0; some = true; value = i }
+place-at e = rw e
 
-pub index-nothing : {r : Place} → r ≡ place.Nothing → asIndex r ≡ record { no = 0; some = false; value = 0 }
-index-nothing e = rw e
+pub place-nothing : {r : Place} → r ≡ place.Nothing → asPlace r ≡ record { no = 0; some = false; value = 0 }
+place-nothing e = rw e
 
-pub index-refused : {r : Place} {e : Refusal} {k : ℕ} → r ≡ place.Refused e → k ≡ noOf e → asIndex r ≡ record { no = k; some = false; value = 0 }
-index-refused e q = rw (q, e)
+pub place-refused : {r : Place} {e : Refusal} {k : ℕ} → r ≡ place.Refused e → k ≡ noOf e → asPlace r ≡ record { no = k; some = false; value = 0 }
+place-refused e q = rw (q, e)
 
-pub bound-at : {r : Edge} {c : Clock} → r ≡ edge.At c → asBound r ≡ record { no = 0; some = true; value = c .0 }
-bound-at e = rw e
+pub edge-at : {r : Edge} {c : Clock} → r ≡ edge.At c → asEdge r ≡ record { no = 0; some = true; value = c .0 }
+edge-at e = rw e
 
-pub bound-nothing : {r : Edge} → r ≡ edge.Nothing → asBound r ≡ record { no = 0; some = false; value = 0 }
-bound-nothing e = rw e
+pub edge-nothing : {r : Edge} → r ≡ edge.Nothing → asEdge r ≡ record { no = 0; some = false; value = 0 }
+edge-nothing e = rw e
 
-pub bound-refused : {r : Edge} {e : Refusal} {k : ℕ} → r ≡ edge.Refused e → k ≡ noOf e → asBound r ≡ record { no = k; some = false; value = 0 }
-bound-refused e q = rw (q, e)
+pub edge-refused : {r : Edge} {e : Refusal} {k : ℕ} → r ≡ edge.Refused e → k ≡ noOf e → asEdge r ≡ record { no = k; some = false; value = 0 }
+edge-refused e q = rw (q, e)
 
-pub row-at : {r : Found} {s e : Clock} → r ≡ found.Row s e → asRow r ≡ record { no = 0; some = true; start = s .0; end = e .0 }
-row-at e = rw e
+pub found-row : {r : Found} {s e : Clock} → r ≡ found.Row s e → asFound r ≡ record { no = 0; some = true; start = s .0; end = e .0 }
+found-row e = rw e
 
-pub row-nothing : {r : Found} → r ≡ found.Nothing → asRow r ≡ record { no = 0; some = false; start = 0; end = 0 }
-row-nothing e = rw e
+pub found-nothing : {r : Found} → r ≡ found.Nothing → asFound r ≡ record { no = 0; some = false; start = 0; end = 0 }
+found-nothing e = rw e
 
-pub row-refused : {r : Found} {e : Refusal} {k : ℕ} → r ≡ found.Refused e → k ≡ noOf e → asRow r ≡ record { no = k; some = false; start = 0; end = 0 }
-row-refused e q = rw (q, e)
+pub found-refused : {r : Found} {e : Refusal} {k : ℕ} → r ≡ found.Refused e → k ≡ noOf e → asFound r ≡ record { no = k; some = false; start = 0; end = 0 }
+found-refused e q = rw (q, e)
 
-pub value-done : {r : Got} {c : Clock} → r ≡ got.Is c → asValue r ≡ record { no = 0; value = c .0 }
-value-done e = rw e
+pub got-is : {r : Got} {c : Clock} → r ≡ got.Is c → asGot r ≡ record { no = 0; value = c .0 }
+got-is e = rw e
 
-pub value-refused : {r : Got} {e : Refusal} {k : ℕ} → r ≡ got.Refused e → k ≡ noOf e → asValue r ≡ record { no = k; value = 0 }
-value-refused e q = rw (q, e)
+pub got-refused : {r : Got} {e : Refusal} {k : ℕ} → r ≡ got.Refused e → k ≡ noOf e → asGot r ≡ record { no = k; value = 0 }
+got-refused e q = rw (q, e)
 
-pub verdict-less : {r : Order} → r ≡ order.Less → asVerdict r ≡ record { no = 0; value = 1 }
-verdict-less e = rw e
+pub order-less : {r : Order} → r ≡ order.Less → asOrder r ≡ record { no = 0; value = 1 }
+order-less e = rw e
 
-pub verdict-equal : {r : Order} → r ≡ order.Equal → asVerdict r ≡ record { no = 0; value = 2 }
-verdict-equal e = rw e
+pub order-equal : {r : Order} → r ≡ order.Equal → asOrder r ≡ record { no = 0; value = 2 }
+order-equal e = rw e
 
-pub verdict-greater : {r : Order} → r ≡ order.Greater → asVerdict r ≡ record { no = 0; value = 3 }
-verdict-greater e = rw e
+pub order-greater : {r : Order} → r ≡ order.Greater → asOrder r ≡ record { no = 0; value = 3 }
+order-greater e = rw e
 
-pub verdict-nothing : {r : Order} → r ≡ order.Nothing → asVerdict r ≡ record { no = 0; value = 0 }
-verdict-nothing e = rw e
+pub order-nothing : {r : Order} → r ≡ order.Nothing → asOrder r ≡ record { no = 0; value = 0 }
+order-nothing e = rw e
 
-pub verdict-refused : {r : Order} {e : Refusal} {k : ℕ} → r ≡ order.Refused e → k ≡ noOf e → asVerdict r ≡ record { no = k; value = 0 }
-verdict-refused e q = rw (q, e)
+pub order-refused : {r : Order} {e : Refusal} {k : ℕ} → r ≡ order.Refused e → k ≡ noOf e → asOrder r ≡ record { no = k; value = 0 }
+order-refused e q = rw (q, e)
 
-pub vector-done : (at : ℕ) {r : Decoded} {n p : ℕ} → r ≡ decoded.Done n p → asVector at r ≡ record { no = 0; count = n; next = p }
-vector-done at e = rw e
+pub decoded-done : (at : ℕ) {r : Decoded} {n p : ℕ} → r ≡ decoded.Done n p → asDecoded at r ≡ record { no = 0; count = n; next = p }
+decoded-done at e = rw e
 
-pub vector-refused : (at : ℕ) {r : Decoded} {e : Refusal} {k : ℕ} → r ≡ decoded.Refused e → k ≡ noOf e → asVector at r ≡ record { no = k; count = 0; next = at }
-vector-refused at e q = rw (q, e)
+pub decoded-refused : (at : ℕ) {r : Decoded} {e : Refusal} {k : ℕ} → r ≡ decoded.Refused e → k ≡ noOf e → asDecoded at r ≡ record { no = k; count = 0; next = at }
+decoded-refused at e q = rw (q, e)
 
 -- a vector written
-pub encodes : {a : Held} {buf after : List ℕ} {at : ℕ} {w : Wrote} {r : boundary.Place} → Placed at w r → Encodes a buf at (wrote at w after) → Encodes a buf at (placed r after)
+pub encodes : {a : Held} {buf after : List ℕ} {at : ℕ} {w : Wrote} {r : boundary.Wrote} → Carries at w r → Encodes a buf at (wrote at w after) → Encodes a buf at (written r after)
 encodes {a} {buf} {after} {at} p e = subst (Encodes a buf at) (sym (p .says after)) e
 
-pub ruleset answering = (rows-done, rows-refused, told-yes, told-no, told-refused, count-done, count-refused, index-at, index-nothing, index-refused, bound-at, bound-nothing, bound-refused, row-at, row-nothing, row-refused, value-done, value-refused, verdict-less, verdict-equal, verdict-greater, verdict-nothing, verdict-refused, vector-done, vector-refused, needs)
+pub ruleset answering = (made-rows, made-refused, told-yes, told-no, told-refused, counted-is, counted-refused, place-at, place-nothing, place-refused, edge-at, edge-nothing, edge-refused, found-row, found-nothing, found-refused, got-is, got-refused, order-less, order-equal, order-greater, order-nothing, order-refused, decoded-done, decoded-refused, needs)
 
 pub ruleset encoding = (encodes, needs)

@@ -48,9 +48,9 @@ use Rattle.varint.specs.declared.ReadSignedIsize.the-variants as signed-isize
 use Rattle.varint.specs.declared.Wrote.{Wrote}
 use Rattle.varint.specs.declared.Wrote.the-variants as answer
 use Rattle.varint.proofs.Answers.{doneInt, widens, through}
-use Rattle.ffi.specs.Boundary.{placed}
-use Rattle.ffi.specs.Inner.{Placed}
-use Rattle.ffi.specs.declared.Place.{Place}
+use Rattle.ffi.specs.Boundary.{written}
+use Rattle.ffi.specs.Inner.{Carries}
+use Rattle.ffi.specs.declared.Wrote as boundary
 
 -- unsigned numbers
 module _ (at : ℕ) {a : Answer} where
@@ -142,22 +142,22 @@ module _ (at : ℕ) {a : IntAnswer} where
 
 -- numbers written
 module _ (at : ℕ) {r : Wrote} where
-  pub place-done : {p : ℕ} → r ≡ answer.Done p → Placed at r (record { no = 0; next = p })
-  place-done e = record { says = λ buf. rw e }
+  pub wrote-done : {p : ℕ} → r ≡ answer.Done p → Carries at r (record { no = 0; next = p })
+  wrote-done e = record { says = λ buf. rw e }
 
-  pub place-refused : {e : Refusal} {k : ℕ} → r ≡ answer.Refused e → k ≡ noOf e → Placed at r (record { no = k; next = at })
-  place-refused e q = record { says = λ buf. rw (q, e) }
+  pub wrote-refused : {e : Refusal} {k : ℕ} → r ≡ answer.Refused e → k ≡ noOf e → Carries at r (record { no = k; next = at })
+  wrote-refused e q = record { says = λ buf. rw (q, e) }
 
-  pub written : {q : Place} {buf : List ℕ} {a : Written} → Placed at r q → wrote at r buf ≡ a → placed q buf ≡ a
-  written {buf = buf} e said = e .says buf ∙ said
+  pub carried : {q : boundary.Wrote} {buf : List ℕ} {a : Written} → Carries at r q → wrote at r buf ≡ a → written q buf ≡ a
+  carried {buf = buf} e said = e .says buf ∙ said
 
 module _ (v z : ℤ) (same : z ≡ v) where
-  pub int-written : (old : List ℕ) (at : ℕ) {r : Wrote} {q : Place} {buf : List ℕ} → Placed at r q → wrote at r buf ≡ writeAt (intBytes z) old at → placed q buf ≡ writeAt (intBytes v) old at
-  int-written old at e said = written at e said ∙ rw same
+  pub int-written : (old : List ℕ) (at : ℕ) {r : Wrote} {q : boundary.Wrote} {buf : List ℕ} → Carries at r q → wrote at r buf ≡ writeAt (intBytes z) old at → written q buf ≡ writeAt (intBytes v) old at
+  int-written old at e said = carried at e said ∙ rw same
 
-  pub signed-written : (b : Bool) (old : List ℕ) (at : ℕ) {r : Wrote} {q : Place} {buf : List ℕ} → Placed at r q → wrote at r buf ≡ writeSignedAt b z old at
-      → placed q buf ≡ writeSignedAt b v old at
-  signed-written b old at e said = written at e said ∙ rw same
+  pub signed-written : (b : Bool) (old : List ℕ) (at : ℕ) {r : Wrote} {q : boundary.Wrote} {buf : List ℕ} → Carries at r q → wrote at r buf ≡ writeSignedAt b z old at
+      → written q buf ≡ writeSignedAt b v old at
+  signed-written b old at e said = carried at e said ∙ rw same
 
   pub int-length : {n : ℕ} → n ≡ length (intBytes z) → n ≡ length (intBytes v)
   int-length e = e ∙ rw same
@@ -168,6 +168,6 @@ pub ruleset reading-int = (i8-done, i8-refused, i16-done, i16-refused, i32-done,
 
 pub ruleset reading-signed = (signed-i8-done, signed-i8-refused, signed-i16-done, signed-i16-refused, signed-i32-done, signed-i32-refused, signed-i64-done, signed-i64-refused, signed-isize-done, signed-isize-refused, widens, through, needs)
 
-pub ruleset writing = (place-done, place-refused, written, needs)
+pub ruleset writing = (wrote-done, wrote-refused, carried, needs)
 
 pub ruleset writing-int = (int-written, signed-written, int-length, needs)

@@ -22,9 +22,9 @@ use Rattle.state_vector.specs.Bytes.{Encodes, writes, malformed}
 use Rattle.state_vector.proofs.Determined as vectors
 use Rattle.ffi.specs.declared.Number.{Number}
 use Rattle.ffi.specs.declared.Integer.{Integer}
-use Rattle.ffi.specs.declared.Place.{Place}
-use Rattle.ffi.specs.declared.Rows.{Rows}
-use Rattle.ffi.specs.Boundary.{number, integer, placed, Crosses, asRows}
+use Rattle.ffi.specs.declared.Wrote.{Wrote}
+use Rattle.ffi.specs.declared.Made.{Made}
+use Rattle.ffi.specs.Boundary.{number, integer, written, Crosses, asMade}
 use Rattle.ffi.proofs.iz_read_u8.Reads as read-u8
 use Rattle.ffi.proofs.iz_read_u32.Reads as read-u32
 use Rattle.ffi.proofs.iz_read_u64.Reads as read-u64
@@ -94,8 +94,8 @@ number-one r s p q = ap (λ (a : Answer). record { no = a .no; value = a .value;
 pub integer-one : {x : IntAnswer} (r s : Integer) → integer r ≡ x → integer s ≡ x → r ≡ s
 integer-one r s p q = ap (λ (a : IntAnswer). record { no = a .no; value = a .value; «is_negative» = a .negative; next = a .place }) (p ∙ sym q)
 
-pub placed-one : {x : Written} (r s : Place) (a b : List ℕ) → placed r a ≡ x → placed s b ≡ x → (r ≡ s) × (a ≡ b)
-placed-one r s a b p q = (ap (λ (w : Written). record { no = w .no; next = w .place }) (p ∙ sym q), ap (λ (w : Written). w .buffer) (p ∙ sym q))
+pub written-one : {x : Written} (r s : Wrote) (a b : List ℕ) → written r a ≡ x → written s b ≡ x → (r ≡ s) × (a ≡ b)
+written-one r s a b p q = (ap (λ (w : Written). record { no = w .no; next = w .place }) (p ∙ sym q), ap (λ (w : Written). w .buffer) (p ∙ sym q))
 
 -- tables: the struct is the view of one answer, which the routine's own theorem determines
 pub crossed : {A S M : Type 0} {promise : M → A → Type 0} {view : A → S} → ((m n : M) (a b : A) → promise m a → promise n b → (a ≡ b) × (m ≡ n))
@@ -105,27 +105,27 @@ crossed {view = view} one m n r s p q = let e = one m n (p .answer) (q .answer) 
 asked : {A S : Type 0} {promise : A → Type 0} {view : A → S} → ((a b : A) → promise a → promise b → a ≡ b) → (r s : S) → Crosses promise view r → Crosses promise view s → r ≡ s
 asked {view = view} one r s p q = sym (p .same) ∙ ap view (one (p .answer) (q .answer) (p .kept) (q .kept)) ∙ q .same
 
-ranges-one : {ok : Type 0} {clocks : ℕ → Type 0} (len : ℕ) (out out′ : List ℕ) (r s : Rows) → Crosses (of-ranges.Writes ok (range.TableOf clocks) len out) asRows r
-    → Crosses (of-ranges.Writes ok (range.TableOf clocks) len out′) asRows s → (r ≡ s) × (out ≡ out′)
+ranges-one : {ok : Type 0} {clocks : ℕ → Type 0} (len : ℕ) (out out′ : List ℕ) (r s : Made) → Crosses (of-ranges.Writes ok (range.TableOf clocks) len out) asMade r
+    → Crosses (of-ranges.Writes ok (range.TableOf clocks) len out′) asMade s → (r ≡ s) × (out ≡ out′)
 ranges-one len = crossed (λ m n a b p q. ranges.writes-one len p q)
 
-pub ids-one : {ok : Type 0} {set : ℕ → ℕ → Type 0} (o out out′ : of-ids.Slices) (r s : Rows) → Crosses (of-ids.Writes ok (id.TableOf set) o out) asRows r
-    → Crosses (of-ids.Writes ok (id.TableOf set) o out′) asRows s → (r ≡ s) × (out ≡ out′)
+pub ids-one : {ok : Type 0} {set : ℕ → ℕ → Type 0} (o out out′ : of-ids.Slices) (r s : Made) → Crosses (of-ids.Writes ok (id.TableOf set) o out) asMade r
+    → Crosses (of-ids.Writes ok (id.TableOf set) o out′) asMade s → (r ≡ s) × (out ≡ out′)
 ids-one o = crossed (λ m n a b p q. ids.writes-one o p q)
 
-captured-one : (h : of-ids.Held) (o out out′ : of-ids.Slices) (r s : Rows) → Crosses (of-ids.Captured h o out) asRows r → Crosses (of-ids.Captured h o out′) asRows s → (r ≡ s) × (out ≡ out′)
+captured-one : (h : of-ids.Held) (o out out′ : of-ids.Slices) (r s : Made) → Crosses (of-ids.Captured h o out) asMade r → Crosses (of-ids.Captured h o out′) asMade s → (r ≡ s) × (out ≡ out′)
 captured-one h o = crossed (λ m n a b p q. ids.captured-one h o p q)
 
-vectors-one : {ok : Type 0} {clients : ℕ → Type 0} {clock : ℕ → ℕ} (o out out′ : of-vectors.Slices) (r s : Rows) → Crosses (of-vectors.Writes ok (VectorOf clients clock) o out) asRows r
-    → Crosses (of-vectors.Writes ok (VectorOf clients clock) o out′) asRows s → (r ≡ s) × (out ≡ out′)
+vectors-one : {ok : Type 0} {clients : ℕ → Type 0} {clock : ℕ → ℕ} (o out out′ : of-vectors.Slices) (r s : Made) → Crosses (of-vectors.Writes ok (VectorOf clients clock) o out) asMade r
+    → Crosses (of-vectors.Writes ok (VectorOf clients clock) o out′) asMade s → (r ≡ s) × (out ≡ out′)
 vectors-one o = crossed (λ m n a b p q. vectors.writes-one o p q)
 
 -- a vector written
-encoded-one : {a : of-vectors.Held} {buf : List ℕ} {at : ℕ} (r s : Place) (m n : List ℕ) → Encodes a buf at (placed r m) → Encodes a buf at (placed s n) → (r ≡ s) × (m ≡ n)
-encoded-one r s m n (writes t e) (writes u f) = placed-one r s m n e f
+encoded-one : {a : of-vectors.Held} {buf : List ℕ} {at : ℕ} (r s : Wrote) (m n : List ℕ) → Encodes a buf at (written r m) → Encodes a buf at (written s n) → (r ≡ s) × (m ≡ n)
+encoded-one r s m n (writes t e) (writes u f) = written-one r s m n e f
 encoded-one r s m n (writes t e) (malformed u f) = absurd (u t)
 encoded-one r s m n (malformed t e) (writes u f) = absurd (t u)
-encoded-one r s m n (malformed t e) (malformed u f) = placed-one r s m n e f
+encoded-one r s m n (malformed t e) (malformed u f) = written-one r s m n e f
 
 -- slices lent one after another
 abbrev threeAt : {A : Type 0} → RefT (List ℕ) × (RefT (List ℕ) × (RefT (List ℕ) × A)) → of-ids.Slices
@@ -179,46 +179,46 @@ pub iz-read-signed-isize-determined : Answers read-signed-isize.Learnt
 iz-read-signed-isize-determined κ x r s y z = integer-one r s
 
 pub iz-write-u8-determined : Settles write-u8.Learnt (λ κ y. now (y .1 .0))
-iz-write-u8-determined κ x r s y z = placed-one r s _ _
+iz-write-u8-determined κ x r s y z = written-one r s _ _
 
 pub iz-write-u32-determined : Settles write-u32.Learnt (λ κ y. now (y .1 .0))
-iz-write-u32-determined κ x r s y z = placed-one r s _ _
+iz-write-u32-determined κ x r s y z = written-one r s _ _
 
 pub iz-write-u64-determined : Settles write-u64.Learnt (λ κ y. now (y .1 .0))
-iz-write-u64-determined κ x r s y z = placed-one r s _ _
+iz-write-u64-determined κ x r s y z = written-one r s _ _
 
 pub iz-write-usize-determined : Settles write-usize.Learnt (λ κ y. now (y .1 .0))
-iz-write-usize-determined κ x r s y z = placed-one r s _ _
+iz-write-usize-determined κ x r s y z = written-one r s _ _
 
 pub iz-write-i8-determined : Settles write-i8.Learnt (λ κ y. now (y .1 .0))
-iz-write-i8-determined κ x r s y z = placed-one r s _ _
+iz-write-i8-determined κ x r s y z = written-one r s _ _
 
 pub iz-write-i16-determined : Settles write-i16.Learnt (λ κ y. now (y .1 .0))
-iz-write-i16-determined κ x r s y z = placed-one r s _ _
+iz-write-i16-determined κ x r s y z = written-one r s _ _
 
 pub iz-write-i32-determined : Settles write-i32.Learnt (λ κ y. now (y .1 .0))
-iz-write-i32-determined κ x r s y z = placed-one r s _ _
+iz-write-i32-determined κ x r s y z = written-one r s _ _
 
 pub iz-write-i64-determined : Settles write-i64.Learnt (λ κ y. now (y .1 .0))
-iz-write-i64-determined κ x r s y z = placed-one r s _ _
+iz-write-i64-determined κ x r s y z = written-one r s _ _
 
 pub iz-write-isize-determined : Settles write-isize.Learnt (λ κ y. now (y .1 .0))
-iz-write-isize-determined κ x r s y z = placed-one r s _ _
+iz-write-isize-determined κ x r s y z = written-one r s _ _
 
 pub iz-write-signed-i8-determined : Settles write-signed-i8.Learnt (λ κ y. now (y .1 .1 .0))
-iz-write-signed-i8-determined κ x r s y z = placed-one r s _ _
+iz-write-signed-i8-determined κ x r s y z = written-one r s _ _
 
 pub iz-write-signed-i16-determined : Settles write-signed-i16.Learnt (λ κ y. now (y .1 .1 .0))
-iz-write-signed-i16-determined κ x r s y z = placed-one r s _ _
+iz-write-signed-i16-determined κ x r s y z = written-one r s _ _
 
 pub iz-write-signed-i32-determined : Settles write-signed-i32.Learnt (λ κ y. now (y .1 .1 .0))
-iz-write-signed-i32-determined κ x r s y z = placed-one r s _ _
+iz-write-signed-i32-determined κ x r s y z = written-one r s _ _
 
 pub iz-write-signed-i64-determined : Settles write-signed-i64.Learnt (λ κ y. now (y .1 .1 .0))
-iz-write-signed-i64-determined κ x r s y z = placed-one r s _ _
+iz-write-signed-i64-determined κ x r s y z = written-one r s _ _
 
 pub iz-write-signed-isize-determined : Settles write-signed-isize.Learnt (λ κ y. now (y .1 .1 .0))
-iz-write-signed-isize-determined κ x r s y z = placed-one r s _ _
+iz-write-signed-isize-determined κ x r s y z = written-one r s _ _
 
 pub iz-length-u64-determined : Answers length-u64.Learnt
 iz-length-u64-determined κ x r s y z = λ p q. p ∙ sym q

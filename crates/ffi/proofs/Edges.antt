@@ -32,14 +32,14 @@ use Rattle.state_vector.specs.declared.Decoded.the-variants as decoded
 use Rattle.state_vector.proofs.Determined as vectors
 use Rattle.ffi.specs.declared.Number.{Number}
 use Rattle.ffi.specs.declared.Integer.{Integer}
-use Rattle.ffi.specs.declared.Place.{Place}
-use Rattle.ffi.specs.declared.Rows.{Rows}
-use Rattle.ffi.specs.declared.YesNo.{YesNo}
-use Rattle.ffi.specs.declared.Vector.{Vector}
-use Rattle.ffi.specs.declared.Verdict.{Verdict}
-use Rattle.ffi.specs.declared.Row as boundary
-use Rattle.ffi.specs.Boundary.{number, integer, placed, Crosses, asRows, asYesNo, foundRow, asRow, verdict, asVerdict, asVector}
-use Rattle.ffi.proofs.Determined.{number-one, integer-one, placed-one, crossed, ids-one}
+use Rattle.ffi.specs.declared.Wrote.{Wrote}
+use Rattle.ffi.specs.declared.Made.{Made}
+use Rattle.ffi.specs.declared.Told.{Told}
+use Rattle.ffi.specs.declared.Decoded.{Decoded}
+use Rattle.ffi.specs.declared.Order.{Order}
+use Rattle.ffi.specs.declared.Found.{Found}
+use Rattle.ffi.specs.Boundary.{number, integer, written, Crosses, asMade, asTold, foundOf, asFound, verdict, asOrder, asDecoded}
+use Rattle.ffi.proofs.Determined.{number-one, integer-one, written-one, crossed, ids-one}
 
 -- ## Tables
 
@@ -50,14 +50,14 @@ module _ {T O ok : Type 0} {right : List T → Type 0} {most : ℕ} {fill : List
   within (malformed m e f) = omega (arith, ap (λ (a : Answer ℕ). a .value) e)
 
   -- an input table breaks its rules: MALFORMED, whatever the room, and every element of the output is zero
-  pub malformed-made : (r : Rows) → (ok → ⊥) → Crosses (λ a. Gives ok right most fill out (saidMade a)) asRows r → (r ≡ record { no = 5; count = 0 }) × (out ≡ fill [])
+  pub malformed-made : (r : Made) → (ok → ⊥) → Crosses (λ a. Gives ok right most fill out (saidMade a)) asMade r → (r ≡ record { no = 5; count = 0 }) × (out ≡ fill [])
   malformed-made r n c =
       let e = wrong.malformed-made n (c .kept) in
       (sym (c .same) ∙ ap (λ (a : Answer ℕ). record { no = a .no; count = a .value }) (e .0), e .1)
 
   -- no answer counts more rows than the shortest slice of the output holds: none where one of them has no element
-  pub count-within : (r : Rows) → Crosses (λ a. Gives ok right most fill out (saidMade a)) asRows r → r .count ≤ most
-  count-within r c = omega (arith, within (c .kept), ap (λ (s : Rows). s .count) (c .same))
+  pub count-within : (r : Made) → Crosses (λ a. Gives ok right most fill out (saidMade a)) asMade r → r .count ≤ most
+  count-within r c = omega (arith, within (c .kept), ap (λ (s : Made). s .count) (c .same))
 
 -- a question about such a table: MALFORMED and the value that stands for none
 pub malformed-asked : {A B S ok : Type 0} {right : B → Type 0} {none : B} (said : A → Answer B) (show : ℕ → B → S) (r : S) → (ok → ⊥)
@@ -66,14 +66,14 @@ malformed-asked said show r n c = sym (c .same) ∙ ap (λ (a : Answer _). show 
 
 -- "n at most 1,024 and at most half the slice's length"; "the count at most each slice's length"
 pub ranges-over : (l : List ℕ) (n : ℕ) → (length l < 2 * n) ⊎ (rowLimit < n) → of-ranges.Table l n → ⊥
-ranges-over l n (inl h) t = omega (arith, t .0)
-ranges-over l n (inr h) t = omega (arith, t .0)
+ranges-over l n (inl h) t = omega (arith, t .few)
+ranges-over l n (inr h) t = omega (arith, t .few)
 
 pub ids-over : (cs ss es : List ℕ) (n : ℕ) → (length cs < n) ⊎ (length ss < n) ⊎ (length es < n) ⊎ (rowLimit < n) → of-ids.Table (of-ids.held cs ss es n) → ⊥
-ids-over cs ss es n (inl h) t = omega (arith, t .0)
-ids-over cs ss es n (inr (inl h)) t = omega (arith, t .0)
-ids-over cs ss es n (inr (inr (inl h))) t = omega (arith, t .0)
-ids-over cs ss es n (inr (inr (inr h))) t = omega (arith, t .0)
+ids-over cs ss es n (inl h) t = omega (arith, t .few)
+ids-over cs ss es n (inr (inl h)) t = omega (arith, t .few)
+ids-over cs ss es n (inr (inr (inl h))) t = omega (arith, t .few)
+ids-over cs ss es n (inr (inr (inr h))) t = omega (arith, t .few)
 
 pub vectors-over : (cs ks : List ℕ) (n : ℕ) → (length cs < n) ⊎ (length ks < n) ⊎ (vectorLimit < n) → of-vectors.Table (of-vectors.held cs ks n) → ⊥
 vectors-over cs ks n (inl h) t = omega (arith, t .few)
@@ -81,21 +81,21 @@ vectors-over cs ks n (inr (inl h)) t = omega (arith, t .few)
 vectors-over cs ks n (inr (inr h)) t = omega (arith, t .few)
 
 -- so for instance of a row asked for, of a merge whose second table has such a count, and of a verdict
-pub ranges-get-over : (l : List ℕ) (n i : ℕ) (r : boundary.Row) → (length l < 2 * n) ⊎ (rowLimit < n) → Crosses (of-ranges.Get l n i) asRow r
+pub ranges-get-over : (l : List ℕ) (n i : ℕ) (r : Found) → (length l < 2 * n) ⊎ (rowLimit < n) → Crosses (of-ranges.Get l n i) asFound r
     → r ≡ record { no = 5; some = false; start = 0; end = 0 }
-ranges-get-over l n i r h c = malformed-asked of-ranges.saidFound foundRow r (ranges-over l n h) c
+ranges-get-over l n i r h c = malformed-asked of-ranges.saidFound foundOf r (ranges-over l n h) c
 
-pub ids-merge-over : (a : of-ids.Held) (cs ss es : List ℕ) (n : ℕ) (o out : of-ids.Slices) (r : Rows) → (length cs < n) ⊎ (length ss < n) ⊎ (length es < n) ⊎ (rowLimit < n)
-    → Crosses (of-ids.Merged a (of-ids.held cs ss es n) o out) asRows r → (r ≡ record { no = 5; count = 0 }) × (out ≡ of-ids.filled [] o)
+pub ids-merge-over : (a : of-ids.Held) (cs ss es : List ℕ) (n : ℕ) (o out : of-ids.Slices) (r : Made) → (length cs < n) ⊎ (length ss < n) ⊎ (length es < n) ⊎ (rowLimit < n)
+    → Crosses (of-ids.Merged a (of-ids.held cs ss es n) o out) asMade r → (r ≡ record { no = 5; count = 0 }) × (out ≡ of-ids.filled o [])
 ids-merge-over a cs ss es n o out r h c = malformed-made r (λ t. ids-over cs ss es n h (t .1)) c
 
-pub vector-compare-over : (a : of-vectors.Held) (cs ks : List ℕ) (n : ℕ) (r : Verdict) → (length cs < n) ⊎ (length ks < n) ⊎ (vectorLimit < n)
-    → Crosses (of-vectors.Compared a (of-vectors.held cs ks n)) asVerdict r → r ≡ record { no = 5; value = 0 }
+pub vector-compare-over : (a : of-vectors.Held) (cs ks : List ℕ) (n : ℕ) (r : Order) → (length cs < n) ⊎ (length ks < n) ⊎ (vectorLimit < n)
+    → Crosses (of-vectors.Compared a (of-vectors.held cs ks n)) asOrder r → r ≡ record { no = 5; value = 0 }
 vector-compare-over a cs ks n r h c = malformed-asked of-vectors.saidOrder (λ k v. record { no = k; value = verdict v }) r (λ t. vectors-over cs ks n h (t .1)) c
 
 -- a yes or no of what is not so
-pub not-so : {ok P : Type 0} (r : YesNo) → (P → ⊥) → Crosses (λ a. Tells ok (Says P) false (saidTold a)) asYesNo r → r .value ≡ false
-not-so {ok = ok} {P = P} r n c = sym (ap (λ (s : YesNo). s .value) (c .same)) ∙ go (c .kept)
+pub not-so : {ok P : Type 0} (r : Told) → (P → ⊥) → Crosses (λ a. Tells ok (Says P) false (saidTold a)) asTold r → r .value ≡ false
+not-so {ok = ok} {P = P} r n c = sym (ap (λ (s : Told). s .value) (c .same)) ∙ go (c .kept)
   where
     no : (v : Bool) → Says P v → v ≡ false
     no true s = absurd (n (s .right refl))
@@ -106,25 +106,25 @@ not-so {ok = ok} {P = P} r n c = sym (ap (λ (s : YesNo). s .value) (c .same)) �
     go (refuses m e) = ap (λ (a : Answer Bool). a .value) e
 
 -- "clock 4,294,967,295 is in no range", of a table of ranges and of ids
-pub last-clock-not-in : (l : List ℕ) (n : ℕ) (r : YesNo) → ((i : ℕ) → Fits w32 (getD l i 0)) → Crosses (of-ranges.ContainsClock l n 4294967295) asYesNo r → r .value ≡ false
+pub last-clock-not-in : (l : List ℕ) (n : ℕ) (r : Told) → ((i : ℕ) → Fits w32 (getD l i 0)) → Crosses (of-ranges.ContainsClock l n 4294967295) asTold r → r .value ≡ false
 last-clock-not-in l n r h c = not-so r (last-clock l n h) c
 
-pub last-id-not-in : (cs ss es : List ℕ) (n d : ℕ) (r : YesNo) → ((i : ℕ) → Fits w32 (getD es i 0)) → Crosses (of-ids.Contains (of-ids.held cs ss es n) d 4294967295) asYesNo r
+pub last-id-not-in : (cs ss es : List ℕ) (n d : ℕ) (r : Told) → ((i : ℕ) → Fits w32 (getD es i 0)) → Crosses (of-ids.Contains (of-ids.held cs ss es n) d 4294967295) asTold r
     → r .value ≡ false
 last-id-not-in cs ss es n d r h c = not-so r (ids.last-clock n cs ss es h d) c
 
 -- Rows of two clients are never one, though their clocks touch: in any output with room for two, whatever the lengths of its slices.
-module _ (c d s k e : ℕ) (o out : of-ids.Slices) (r : Rows) where
+module _ (c d s k e : ℕ) (o out : of-ids.Slices) (r : Made) where
   abbrev rows-apart : List Row
   rows-apart = row c s k ∷ row d k e ∷ []
 
-  pub clients-apart : c < d → s < k → k < e → 2 ≤ of-ids.most o → Crosses (of-ids.Inserted (of-ids.held (c ∷ []) (s ∷ []) (k ∷ []) 1) (row d k e) o out) asRows r
-      → (r ≡ record { no = 0; count = 2 }) × (out ≡ of-ids.filled rows-apart o)
+  pub clients-apart : c < d → s < k → k < e → 2 ≤ of-ids.most o → Crosses (of-ids.Inserted (of-ids.held (c ∷ []) (s ∷ []) (k ∷ []) 1) (row d k e) o out) asMade r
+      → (r ≡ record { no = 0; count = 2 }) × (out ≡ of-ids.filled o rows-apart)
   clients-apart f g h m x =
-      ids-one o out (of-ids.filled rows-apart o) r (record { no = 0; count = 2 }) x
+      ids-one o out (of-ids.filled o rows-apart) r (record { no = 0; count = 2 }) x
       (record {
         answer = made.Rows 2;
-        kept = done rows-apart (lit≤ tt, (g, tt, tt)) (
+        kept = done rows-apart (record { few = lit≤ tt; joined = (g, tt, tt) }) (
           (g, inl f, (h, tt, tt)),
           λ c k. (⊎-elim (λ y. inl (inl y)) (⊎-elim (λ y. inr y) (λ y. absurd y)), ⊎-elim (⊎-elim (λ y. inl y) (λ y. absurd y)) (λ y. inr (inl y))),
         ) m refl refl;
@@ -158,22 +158,22 @@ module _ (bs : List ℕ) (at : ℕ) (h : length bs ≤ at) where
   unfolding fitting
   read-i8-past = read-signed-past (λ a. fitting 8 at (plain a)) refl
 
-  pub decode-past : (o out : of-vectors.Slices) (r : Vector) → Crosses (λ d. bytes.Decodes bs at o out (bytes.saidDecoded at d)) (asVector at) r
-      → (r ≡ record { no = 1; count = 0; next = at }) × (out ≡ of-vectors.filled [] o)
+  pub decode-past : (o out : of-vectors.Slices) (r : Decoded) → Crosses (λ d. bytes.Decodes bs at o out (bytes.saidDecoded at d)) (asDecoded at) r
+      → (r ≡ record { no = 1; count = 0; next = at }) × (out ≡ of-vectors.filled o [])
   unfolding bytes.vectorAt andThen
   decode-past o out r x =
-      crossed (vectors.decoded-one bs at o) out (of-vectors.filled [] o) r (record { no = 1; count = 0; next = at }) x
+      crossed (vectors.decoded-one bs at o) out (of-vectors.filled o []) r (record { no = 1; count = 0; next = at }) x
       (record { answer = decoded.Refused End; kept = bytes.refused 1 (rw (number-past 32)) refl refl; same = refl })
 
 -- more bytes than remain from the place, or a place past the end: FULL, the buffer and the place as given
-module _ (buf after : List ℕ) (at : ℕ) (r : Place) where
-  pub write-past : (ns : List ℕ) → length buf < at + length ns → placed r after ≡ writeAt ns buf at → (r ≡ record { no = 4; next = at }) × (after ≡ buf)
+module _ (buf after : List ℕ) (at : ℕ) (r : Wrote) where
+  pub write-past : (ns : List ℕ) → length buf < at + length ns → written r after ≡ writeAt ns buf at → (r ≡ record { no = 4; next = at }) × (after ≡ buf)
   unfolding writeAt
   write-past ns h p =
-      placed-one r (record { no = 4; next = at }) after buf p
+      written-one r (record { no = 4; next = at }) after buf p
       (sym (ap (λ (b : Bool). cond b (record { no = 0; place = at + length ns; buffer = take at buf ++ ns ++ drop (at + length ns) buf }) (unwritten 4 buf at)) (lt-leb (at + length ns) (length buf) h)))
 
-  pub encode-past : (a : of-vectors.Held) → of-vectors.Table a → length buf < at + length (bytes.encoded (of-vectors.rows a)) → bytes.Encodes a buf at (placed r after)
+  pub encode-past : (a : of-vectors.Held) → of-vectors.Table a → length buf < at + length (bytes.encoded (of-vectors.rows a)) → bytes.Encodes a buf at (written r after)
       → (r ≡ record { no = 4; next = at }) × (after ≡ buf)
   encode-past a t h (bytes.writes u e) = write-past (bytes.encoded (of-vectors.rows a)) h e
   encode-past a t h (bytes.malformed n e) = absurd (n t)

@@ -1,15 +1,7 @@
 // The C boundary: each routine of the library under a plain name. Integers, slices (a pointer and a length) and the structs below cross it.
 // Each promise is the routine's own, of the struct that is handed out.
-use ranges::Edge;
-use ranges::Found;
-use state_vector::Decoded;
-use state_vector::Got;
-use state_vector::Order;
 use tables::Client;
 use tables::Clock;
-use tables::Counted;
-use tables::Made;
-use tables::Told;
 use varint::ReadI8;
 use varint::ReadI16;
 use varint::ReadI32;
@@ -29,7 +21,6 @@ use varint::SignedI16;
 use varint::SignedI32;
 use varint::SignedI64;
 use varint::SignedIsize;
-use varint::Wrote;
 ghost use mathlib.Core.Path.{_≡_};
 ghost use lib.ListN.{length};
 ghost use Rattle.varint.specs.Number.{readAt, narrowed, bytesOf, writeAt};
@@ -41,8 +32,8 @@ ghost use Rattle.ids.specs.Tables.{held, three};
 ghost use Rattle.state_vector.specs.Vectors as of-vectors;
 ghost use Rattle.state_vector.specs.Vectors.{two};
 ghost use Rattle.state_vector.specs.Bytes.{Encodes, Decodes, saidDecoded};
-ghost use Rattle.ffi.specs.Boundary.{number, integer, placed, Crosses, asRows, asYesNo, asCount, asIndex, asBound, asRow, asValue, asVerdict, asVector};
-ghost use Rattle.ffi.specs.Inner.{Placed};
+ghost use Rattle.ffi.specs.Boundary.{number, integer, written, Crosses, asMade, asTold, asCounted, asPlace, asEdge, asFound, asGot, asOrder, asDecoded};
+ghost use Rattle.ffi.specs.Inner.{Carries};
 
 // A number read: document 01's number of the answer, 0 for done; the value; the place past it, or as given.
 #[repr(C)]
@@ -63,35 +54,35 @@ pub struct Integer {
 
 // A number written: the place past it, or as given.
 #[repr(C)]
-pub struct Place {
+pub struct Wrote {
     pub no: u32,
     pub next: usize,
 }
 
 // A table written: how many rows, 0 if refused.
 #[repr(C)]
-pub struct Rows {
+pub struct Made {
     pub no: u32,
     pub count: usize,
 }
 
 // A yes or no: false if refused.
 #[repr(C)]
-pub struct YesNo {
+pub struct Told {
     pub no: u32,
     pub value: bool,
 }
 
 // How many: 0 if refused.
 #[repr(C)]
-pub struct Count {
+pub struct Counted {
     pub no: u32,
     pub value: usize,
 }
 
 // An index, or none: then `some` is false and the value 0.
 #[repr(C)]
-pub struct Index {
+pub struct Place {
     pub no: u32,
     pub some: bool,
     pub value: usize,
@@ -99,7 +90,7 @@ pub struct Index {
 
 // A clock, or none: then `some` is false and the value 0.
 #[repr(C)]
-pub struct Bound {
+pub struct Edge {
     pub no: u32,
     pub some: bool,
     pub value: u32,
@@ -107,7 +98,7 @@ pub struct Bound {
 
 // A row of a range table, or none: then `some` is false, start and end 0.
 #[repr(C)]
-pub struct Row {
+pub struct Found {
     pub no: u32,
     pub some: bool,
     pub start: u32,
@@ -116,32 +107,32 @@ pub struct Row {
 
 // A clock: 0 if refused.
 #[repr(C)]
-pub struct Value {
+pub struct Got {
     pub no: u32,
     pub value: u32,
 }
 
 // How two vectors compare: 1 less, 2 equal, 3 greater, 0 none of these or refused.
 #[repr(C)]
-pub struct Verdict {
+pub struct Order {
     pub no: u32,
     pub value: u8,
 }
 
 // A vector read: how many rows, and the place past it; 0 and the place as given if refused.
 #[repr(C)]
-pub struct Vector {
+pub struct Decoded {
     pub no: u32,
     pub count: usize,
     pub next: usize,
 }
 
-fn place_of(got: Wrote, at: usize) -> Place
-    ensures { λ r. ⌜ Placed at got r ⌝ }
+fn wrote_of(got: varint::Wrote, at: usize) -> Wrote
+    ensures { λ r. ⌜ Carries at got r ⌝ }
 {
     match got {
-        Wrote::Done(next) => Place { no: 0, next: next },
-        Wrote::Refused(e) => Place {
+        varint::Wrote::Done(next) => Wrote { no: 0, next: next },
+        varint::Wrote::Refused(e) => Wrote {
             no: varint::no_of(e),
             next: at,
         },
@@ -455,75 +446,75 @@ pub extern "C" fn iz_read_signed_isize(bytes: &[u8], at: usize) -> Integer
 }
 
 #[no_mangle]
-pub extern "C" fn iz_write_u8(value: u8, buf: &mut [u8], at: usize) -> Place
-    ensures { λ r. ⌜ placed r (now (buf .exit)) ≡ writeAt (bytesOf value) (now (buf .entry)) at ⌝ }
+pub extern "C" fn iz_write_u8(value: u8, buf: &mut [u8], at: usize) -> Wrote
+    ensures { λ r. ⌜ written r (now (buf .exit)) ≡ writeAt (bytesOf value) (now (buf .entry)) at ⌝ }
 {
     let got = varint::write_u8(value, buf, at);
-    place_of(got, at)
+    wrote_of(got, at)
 }
 
 #[no_mangle]
-pub extern "C" fn iz_write_u32(value: u32, buf: &mut [u8], at: usize) -> Place
-    ensures { λ r. ⌜ placed r (now (buf .exit)) ≡ writeAt (bytesOf value) (now (buf .entry)) at ⌝ }
+pub extern "C" fn iz_write_u32(value: u32, buf: &mut [u8], at: usize) -> Wrote
+    ensures { λ r. ⌜ written r (now (buf .exit)) ≡ writeAt (bytesOf value) (now (buf .entry)) at ⌝ }
 {
     let got = varint::write_u32(value, buf, at);
-    place_of(got, at)
+    wrote_of(got, at)
 }
 
 #[no_mangle]
-pub extern "C" fn iz_write_u64(value: u64, buf: &mut [u8], at: usize) -> Place
-    ensures { λ r. ⌜ placed r (now (buf .exit)) ≡ writeAt (bytesOf value) (now (buf .entry)) at ⌝ }
+pub extern "C" fn iz_write_u64(value: u64, buf: &mut [u8], at: usize) -> Wrote
+    ensures { λ r. ⌜ written r (now (buf .exit)) ≡ writeAt (bytesOf value) (now (buf .entry)) at ⌝ }
 {
     let got = varint::write_u64(value, buf, at);
-    place_of(got, at)
+    wrote_of(got, at)
 }
 
 #[no_mangle]
-pub extern "C" fn iz_write_usize(value: usize, buf: &mut [u8], at: usize) -> Place
-    ensures { λ r. ⌜ placed r (now (buf .exit)) ≡ writeAt (bytesOf value) (now (buf .entry)) at ⌝ }
+pub extern "C" fn iz_write_usize(value: usize, buf: &mut [u8], at: usize) -> Wrote
+    ensures { λ r. ⌜ written r (now (buf .exit)) ≡ writeAt (bytesOf value) (now (buf .entry)) at ⌝ }
 {
     let got = varint::write_usize(value, buf, at);
-    place_of(got, at)
+    wrote_of(got, at)
 }
 
 #[no_mangle]
-pub extern "C" fn iz_write_i8(value: i8, buf: &mut [u8], at: usize) -> Place
-    ensures { λ r. ⌜ placed r (now (buf .exit)) ≡ writeAt (intBytes value) (now (buf .entry)) at ⌝ }
+pub extern "C" fn iz_write_i8(value: i8, buf: &mut [u8], at: usize) -> Wrote
+    ensures { λ r. ⌜ written r (now (buf .exit)) ≡ writeAt (intBytes value) (now (buf .entry)) at ⌝ }
 {
     let got = varint::write_i8(value, buf, at);
-    place_of(got, at)
+    wrote_of(got, at)
 }
 
 #[no_mangle]
-pub extern "C" fn iz_write_i16(value: i16, buf: &mut [u8], at: usize) -> Place
-    ensures { λ r. ⌜ placed r (now (buf .exit)) ≡ writeAt (intBytes value) (now (buf .entry)) at ⌝ }
+pub extern "C" fn iz_write_i16(value: i16, buf: &mut [u8], at: usize) -> Wrote
+    ensures { λ r. ⌜ written r (now (buf .exit)) ≡ writeAt (intBytes value) (now (buf .entry)) at ⌝ }
 {
     let got = varint::write_i16(value, buf, at);
-    place_of(got, at)
+    wrote_of(got, at)
 }
 
 #[no_mangle]
-pub extern "C" fn iz_write_i32(value: i32, buf: &mut [u8], at: usize) -> Place
-    ensures { λ r. ⌜ placed r (now (buf .exit)) ≡ writeAt (intBytes value) (now (buf .entry)) at ⌝ }
+pub extern "C" fn iz_write_i32(value: i32, buf: &mut [u8], at: usize) -> Wrote
+    ensures { λ r. ⌜ written r (now (buf .exit)) ≡ writeAt (intBytes value) (now (buf .entry)) at ⌝ }
 {
     let got = varint::write_i32(value, buf, at);
-    place_of(got, at)
+    wrote_of(got, at)
 }
 
 #[no_mangle]
-pub extern "C" fn iz_write_i64(value: i64, buf: &mut [u8], at: usize) -> Place
-    ensures { λ r. ⌜ placed r (now (buf .exit)) ≡ writeAt (intBytes value) (now (buf .entry)) at ⌝ }
+pub extern "C" fn iz_write_i64(value: i64, buf: &mut [u8], at: usize) -> Wrote
+    ensures { λ r. ⌜ written r (now (buf .exit)) ≡ writeAt (intBytes value) (now (buf .entry)) at ⌝ }
 {
     let got = varint::write_i64(value, buf, at);
-    place_of(got, at)
+    wrote_of(got, at)
 }
 
 #[no_mangle]
-pub extern "C" fn iz_write_isize(value: isize, buf: &mut [u8], at: usize) -> Place
-    ensures { λ r. ⌜ placed r (now (buf .exit)) ≡ writeAt (intBytes value) (now (buf .entry)) at ⌝ }
+pub extern "C" fn iz_write_isize(value: isize, buf: &mut [u8], at: usize) -> Wrote
+    ensures { λ r. ⌜ written r (now (buf .exit)) ≡ writeAt (intBytes value) (now (buf .entry)) at ⌝ }
 {
     let got = varint::write_isize(value, buf, at);
-    place_of(got, at)
+    wrote_of(got, at)
 }
 
 #[no_mangle]
@@ -532,8 +523,8 @@ pub extern "C" fn iz_write_signed_i8(
     is_negative: bool,
     buf: &mut [u8],
     at: usize,
-) -> Place
-    ensures { λ r. ⌜ placed r (now (buf .exit)) ≡ writeSignedAt «is_negative» value (now (buf .entry)) at ⌝ }
+) -> Wrote
+    ensures { λ r. ⌜ written r (now (buf .exit)) ≡ writeSignedAt «is_negative» value (now (buf .entry)) at ⌝ }
 {
     let got = varint::write_signed_i8(
         SignedI8 {
@@ -543,7 +534,7 @@ pub extern "C" fn iz_write_signed_i8(
         buf,
         at,
     );
-    place_of(got, at)
+    wrote_of(got, at)
 }
 
 #[no_mangle]
@@ -552,8 +543,8 @@ pub extern "C" fn iz_write_signed_i16(
     is_negative: bool,
     buf: &mut [u8],
     at: usize,
-) -> Place
-    ensures { λ r. ⌜ placed r (now (buf .exit)) ≡ writeSignedAt «is_negative» value (now (buf .entry)) at ⌝ }
+) -> Wrote
+    ensures { λ r. ⌜ written r (now (buf .exit)) ≡ writeSignedAt «is_negative» value (now (buf .entry)) at ⌝ }
 {
     let got = varint::write_signed_i16(
         SignedI16 {
@@ -563,7 +554,7 @@ pub extern "C" fn iz_write_signed_i16(
         buf,
         at,
     );
-    place_of(got, at)
+    wrote_of(got, at)
 }
 
 #[no_mangle]
@@ -572,8 +563,8 @@ pub extern "C" fn iz_write_signed_i32(
     is_negative: bool,
     buf: &mut [u8],
     at: usize,
-) -> Place
-    ensures { λ r. ⌜ placed r (now (buf .exit)) ≡ writeSignedAt «is_negative» value (now (buf .entry)) at ⌝ }
+) -> Wrote
+    ensures { λ r. ⌜ written r (now (buf .exit)) ≡ writeSignedAt «is_negative» value (now (buf .entry)) at ⌝ }
 {
     let got = varint::write_signed_i32(
         SignedI32 {
@@ -583,7 +574,7 @@ pub extern "C" fn iz_write_signed_i32(
         buf,
         at,
     );
-    place_of(got, at)
+    wrote_of(got, at)
 }
 
 #[no_mangle]
@@ -592,8 +583,8 @@ pub extern "C" fn iz_write_signed_i64(
     is_negative: bool,
     buf: &mut [u8],
     at: usize,
-) -> Place
-    ensures { λ r. ⌜ placed r (now (buf .exit)) ≡ writeSignedAt «is_negative» value (now (buf .entry)) at ⌝ }
+) -> Wrote
+    ensures { λ r. ⌜ written r (now (buf .exit)) ≡ writeSignedAt «is_negative» value (now (buf .entry)) at ⌝ }
 {
     let got = varint::write_signed_i64(
         SignedI64 {
@@ -603,7 +594,7 @@ pub extern "C" fn iz_write_signed_i64(
         buf,
         at,
     );
-    place_of(got, at)
+    wrote_of(got, at)
 }
 
 #[no_mangle]
@@ -612,8 +603,8 @@ pub extern "C" fn iz_write_signed_isize(
     is_negative: bool,
     buf: &mut [u8],
     at: usize,
-) -> Place
-    ensures { λ r. ⌜ placed r (now (buf .exit)) ≡ writeSignedAt «is_negative» value (now (buf .entry)) at ⌝ }
+) -> Wrote
+    ensures { λ r. ⌜ written r (now (buf .exit)) ≡ writeSignedAt «is_negative» value (now (buf .entry)) at ⌝ }
 {
     let got = varint::write_signed_isize(
         SignedIsize {
@@ -623,7 +614,7 @@ pub extern "C" fn iz_write_signed_isize(
         buf,
         at,
     );
-    place_of(got, at)
+    wrote_of(got, at)
 }
 
 // How many bytes a number takes.
@@ -650,61 +641,61 @@ pub extern "C" fn iz_length_i64(value: i64) -> usize
 
 // ## The answers of table routines
 
-fn rows_of(got: Made) -> Rows
-    ensures { λ r. ⌜ asRows got ≡ r ⌝ }
+fn made_of(got: tables::Made) -> Made
+    ensures { λ r. ⌜ asMade got ≡ r ⌝ }
 {
     match got {
-        Made::Rows(n) => Rows { no: 0, count: n },
-        Made::Refused(e) => Rows {
+        tables::Made::Rows(n) => Made { no: 0, count: n },
+        tables::Made::Refused(e) => Made {
             no: varint::no_of(e),
             count: 0,
         },
     }
 }
 
-fn yes_no(got: Told) -> YesNo
-    ensures { λ r. ⌜ asYesNo got ≡ r ⌝ }
+fn told_of(got: tables::Told) -> Told
+    ensures { λ r. ⌜ asTold got ≡ r ⌝ }
 {
     match got {
-        Told::Yes => YesNo { no: 0, value: true },
-        Told::No => YesNo {
+        tables::Told::Yes => Told { no: 0, value: true },
+        tables::Told::No => Told {
             no: 0,
             value: false,
         },
-        Told::Refused(e) => YesNo {
+        tables::Told::Refused(e) => Told {
             no: varint::no_of(e),
             value: false,
         },
     }
 }
 
-fn count_of(got: Counted) -> Count
-    ensures { λ r. ⌜ asCount got ≡ r ⌝ }
+fn counted_of(got: tables::Counted) -> Counted
+    ensures { λ r. ⌜ asCounted got ≡ r ⌝ }
 {
     match got {
-        Counted::Is(n) => Count { no: 0, value: n },
-        Counted::Refused(e) => Count {
+        tables::Counted::Is(n) => Counted { no: 0, value: n },
+        tables::Counted::Refused(e) => Counted {
             no: varint::no_of(e),
             value: 0,
         },
     }
 }
 
-fn index_of(got: ranges::Place) -> Index
-    ensures { λ r. ⌜ asIndex got ≡ r ⌝ }
+fn place_of(got: ranges::Place) -> Place
+    ensures { λ r. ⌜ asPlace got ≡ r ⌝ }
 {
     match got {
-        ranges::Place::At(i) => Index {
+        ranges::Place::At(i) => Place {
             no: 0,
             some: true,
             value: i,
         },
-        ranges::Place::Nothing => Index {
+        ranges::Place::Nothing => Place {
             no: 0,
             some: false,
             value: 0,
         },
-        ranges::Place::Refused(e) => Index {
+        ranges::Place::Refused(e) => Place {
             no: varint::no_of(e),
             some: false,
             value: 0,
@@ -712,21 +703,21 @@ fn index_of(got: ranges::Place) -> Index
     }
 }
 
-fn bound_of(got: Edge) -> Bound
-    ensures { λ r. ⌜ asBound got ≡ r ⌝ }
+fn edge_of(got: ranges::Edge) -> Edge
+    ensures { λ r. ⌜ asEdge got ≡ r ⌝ }
 {
     match got {
-        Edge::At(c) => Bound {
+        ranges::Edge::At(c) => Edge {
             no: 0,
             some: true,
             value: c.0,
         },
-        Edge::Nothing => Bound {
+        ranges::Edge::Nothing => Edge {
             no: 0,
             some: false,
             value: 0,
         },
-        Edge::Refused(e) => Bound {
+        ranges::Edge::Refused(e) => Edge {
             no: varint::no_of(e),
             some: false,
             value: 0,
@@ -734,23 +725,23 @@ fn bound_of(got: Edge) -> Bound
     }
 }
 
-fn row_of(got: Found) -> Row
-    ensures { λ r. ⌜ asRow got ≡ r ⌝ }
+fn found_of(got: ranges::Found) -> Found
+    ensures { λ r. ⌜ asFound got ≡ r ⌝ }
 {
     match got {
-        Found::Row(s, e) => Row {
+        ranges::Found::Row(s, e) => Found {
             no: 0,
             some: true,
             start: s.0,
             end: e.0,
         },
-        Found::Nothing => Row {
+        ranges::Found::Nothing => Found {
             no: 0,
             some: false,
             start: 0,
             end: 0,
         },
-        Found::Refused(e) => Row {
+        ranges::Found::Refused(e) => Found {
             no: varint::no_of(e),
             some: false,
             start: 0,
@@ -759,43 +750,43 @@ fn row_of(got: Found) -> Row
     }
 }
 
-fn value_of(got: Got) -> Value
-    ensures { λ r. ⌜ asValue got ≡ r ⌝ }
+fn got_of(got: state_vector::Got) -> Got
+    ensures { λ r. ⌜ asGot got ≡ r ⌝ }
 {
     match got {
-        Got::Is(c) => Value { no: 0, value: c.0 },
-        Got::Refused(e) => Value {
+        state_vector::Got::Is(c) => Got { no: 0, value: c.0 },
+        state_vector::Got::Refused(e) => Got {
             no: varint::no_of(e),
             value: 0,
         },
     }
 }
 
-fn verdict_of(got: Order) -> Verdict
-    ensures { λ r. ⌜ asVerdict got ≡ r ⌝ }
+fn order_of(got: state_vector::Order) -> Order
+    ensures { λ r. ⌜ asOrder got ≡ r ⌝ }
 {
     match got {
-        Order::Less => Verdict { no: 0, value: 1 },
-        Order::Equal => Verdict { no: 0, value: 2 },
-        Order::Greater => Verdict { no: 0, value: 3 },
-        Order::Nothing => Verdict { no: 0, value: 0 },
-        Order::Refused(e) => Verdict {
+        state_vector::Order::Less => Order { no: 0, value: 1 },
+        state_vector::Order::Equal => Order { no: 0, value: 2 },
+        state_vector::Order::Greater => Order { no: 0, value: 3 },
+        state_vector::Order::Nothing => Order { no: 0, value: 0 },
+        state_vector::Order::Refused(e) => Order {
             no: varint::no_of(e),
             value: 0,
         },
     }
 }
 
-fn vector_of(got: Decoded, at: usize) -> Vector
-    ensures { λ r. ⌜ asVector at got ≡ r ⌝ }
+fn decoded_of(got: state_vector::Decoded, at: usize) -> Decoded
+    ensures { λ r. ⌜ asDecoded at got ≡ r ⌝ }
 {
     match got {
-        Decoded::Done(n, next) => Vector {
+        state_vector::Decoded::Done(n, next) => Decoded {
             no: 0,
             count: n,
             next: next,
         },
-        Decoded::Refused(e) => Vector {
+        state_vector::Decoded::Refused(e) => Decoded {
             no: varint::no_of(e),
             count: 0,
             next: at,
@@ -806,52 +797,52 @@ fn vector_of(got: Decoded, at: usize) -> Vector
 // ## Range tables
 
 #[no_mangle]
-pub extern "C" fn iz_ranges_contains_clock(t: &[u32], n: usize, clock: u32) -> YesNo
-    ensures { λ r. ⌜ Crosses (of-ranges.ContainsClock (now (t .entry)) n clock) asYesNo r ⌝ }
+pub extern "C" fn iz_ranges_contains_clock(t: &[u32], n: usize, clock: u32) -> Told
+    ensures { λ r. ⌜ Crosses (of-ranges.ContainsClock (now (t .entry)) n clock) asTold r ⌝ }
 {
-    yes_no(ranges::contains_clock(t, n, Clock(clock)))
+    told_of(ranges::contains_clock(t, n, Clock(clock)))
 }
 
 #[no_mangle]
-pub extern "C" fn iz_ranges_find_start(t: &[u32], n: usize, clock: u32) -> Index
-    ensures { λ r. ⌜ Crosses (of-ranges.FindStart (now (t .entry)) n clock) asIndex r ⌝ }
+pub extern "C" fn iz_ranges_find_start(t: &[u32], n: usize, clock: u32) -> Place
+    ensures { λ r. ⌜ Crosses (of-ranges.FindStart (now (t .entry)) n clock) asPlace r ⌝ }
 {
-    index_of(ranges::find_start(t, n, Clock(clock)))
+    place_of(ranges::find_start(t, n, Clock(clock)))
 }
 
 #[no_mangle]
-pub extern "C" fn iz_ranges_clock_start(t: &[u32], n: usize) -> Bound
-    ensures { λ r. ⌜ Crosses (of-ranges.ClockStart (now (t .entry)) n) asBound r ⌝ }
+pub extern "C" fn iz_ranges_clock_start(t: &[u32], n: usize) -> Edge
+    ensures { λ r. ⌜ Crosses (of-ranges.ClockStart (now (t .entry)) n) asEdge r ⌝ }
 {
-    bound_of(ranges::clock_start(t, n))
+    edge_of(ranges::clock_start(t, n))
 }
 
 #[no_mangle]
-pub extern "C" fn iz_ranges_clock_end(t: &[u32], n: usize) -> Bound
-    ensures { λ r. ⌜ Crosses (of-ranges.ClockEnd (now (t .entry)) n) asBound r ⌝ }
+pub extern "C" fn iz_ranges_clock_end(t: &[u32], n: usize) -> Edge
+    ensures { λ r. ⌜ Crosses (of-ranges.ClockEnd (now (t .entry)) n) asEdge r ⌝ }
 {
-    bound_of(ranges::clock_end(t, n))
+    edge_of(ranges::clock_end(t, n))
 }
 
 #[no_mangle]
-pub extern "C" fn iz_ranges_len(t: &[u32], n: usize) -> Count
-    ensures { λ r. ⌜ Crosses (of-ranges.Len (now (t .entry)) n) asCount r ⌝ }
+pub extern "C" fn iz_ranges_len(t: &[u32], n: usize) -> Counted
+    ensures { λ r. ⌜ Crosses (of-ranges.Len (now (t .entry)) n) asCounted r ⌝ }
 {
-    count_of(ranges::len(t, n))
+    counted_of(ranges::len(t, n))
 }
 
 #[no_mangle]
-pub extern "C" fn iz_ranges_is_empty(t: &[u32], n: usize) -> YesNo
-    ensures { λ r. ⌜ Crosses (of-ranges.IsEmpty (now (t .entry)) n) asYesNo r ⌝ }
+pub extern "C" fn iz_ranges_is_empty(t: &[u32], n: usize) -> Told
+    ensures { λ r. ⌜ Crosses (of-ranges.IsEmpty (now (t .entry)) n) asTold r ⌝ }
 {
-    yes_no(ranges::is_empty(t, n))
+    told_of(ranges::is_empty(t, n))
 }
 
 #[no_mangle]
-pub extern "C" fn iz_ranges_get(t: &[u32], n: usize, index: usize) -> Row
-    ensures { λ r. ⌜ Crosses (of-ranges.Get (now (t .entry)) n index) asRow r ⌝ }
+pub extern "C" fn iz_ranges_get(t: &[u32], n: usize, index: usize) -> Found
+    ensures { λ r. ⌜ Crosses (of-ranges.Get (now (t .entry)) n index) asFound r ⌝ }
 {
-    row_of(ranges::get(t, n, index))
+    found_of(ranges::get(t, n, index))
 }
 
 #[no_mangle]
@@ -861,10 +852,10 @@ pub extern "C" fn iz_ranges_insert(
     start: u32,
     end: u32,
     out: &mut [u32],
-) -> Rows
-    ensures { λ r. ⌜ Crosses (of-ranges.Inserted (now (t .entry)) n start end (length (now (out .entry))) (now (out .exit))) asRows r ⌝ }
+) -> Made
+    ensures { λ r. ⌜ Crosses (of-ranges.Inserted (now (t .entry)) n start end (length (now (out .entry))) (now (out .exit))) asMade r ⌝ }
 {
-    rows_of(ranges::insert(t, n, Clock(start), Clock(end), out))
+    made_of(ranges::insert(t, n, Clock(start), Clock(end), out))
 }
 
 #[no_mangle]
@@ -874,17 +865,17 @@ pub extern "C" fn iz_ranges_remove(
     start: u32,
     end: u32,
     out: &mut [u32],
-) -> Rows
-    ensures { λ r. ⌜ Crosses (of-ranges.Removed (now (t .entry)) n start end (length (now (out .entry))) (now (out .exit))) asRows r ⌝ }
+) -> Made
+    ensures { λ r. ⌜ Crosses (of-ranges.Removed (now (t .entry)) n start end (length (now (out .entry))) (now (out .exit))) asMade r ⌝ }
 {
-    rows_of(ranges::remove(t, n, Clock(start), Clock(end), out))
+    made_of(ranges::remove(t, n, Clock(start), Clock(end), out))
 }
 
 #[no_mangle]
-pub extern "C" fn iz_ranges_merge(a: &[u32], n: usize, b: &[u32], m: usize, out: &mut [u32]) -> Rows
-    ensures { λ r. ⌜ Crosses (of-ranges.Merged (now (a .entry)) n (now (b .entry)) m (length (now (out .entry))) (now (out .exit))) asRows r ⌝ }
+pub extern "C" fn iz_ranges_merge(a: &[u32], n: usize, b: &[u32], m: usize, out: &mut [u32]) -> Made
+    ensures { λ r. ⌜ Crosses (of-ranges.Merged (now (a .entry)) n (now (b .entry)) m (length (now (out .entry))) (now (out .exit))) asMade r ⌝ }
 {
-    rows_of(ranges::merge(a, n, b, m, out))
+    made_of(ranges::merge(a, n, b, m, out))
 }
 
 #[no_mangle]
@@ -894,10 +885,10 @@ pub extern "C" fn iz_ranges_exclude(
     b: &[u32],
     m: usize,
     out: &mut [u32],
-) -> Rows
-    ensures { λ r. ⌜ Crosses (of-ranges.Excluded (now (a .entry)) n (now (b .entry)) m (length (now (out .entry))) (now (out .exit))) asRows r ⌝ }
+) -> Made
+    ensures { λ r. ⌜ Crosses (of-ranges.Excluded (now (a .entry)) n (now (b .entry)) m (length (now (out .entry))) (now (out .exit))) asMade r ⌝ }
 {
-    rows_of(ranges::exclude(a, n, b, m, out))
+    made_of(ranges::exclude(a, n, b, m, out))
 }
 
 #[no_mangle]
@@ -907,17 +898,17 @@ pub extern "C" fn iz_ranges_intersect(
     b: &[u32],
     m: usize,
     out: &mut [u32],
-) -> Rows
-    ensures { λ r. ⌜ Crosses (of-ranges.Intersected (now (a .entry)) n (now (b .entry)) m (length (now (out .entry))) (now (out .exit))) asRows r ⌝ }
+) -> Made
+    ensures { λ r. ⌜ Crosses (of-ranges.Intersected (now (a .entry)) n (now (b .entry)) m (length (now (out .entry))) (now (out .exit))) asMade r ⌝ }
 {
-    rows_of(ranges::intersect(a, n, b, m, out))
+    made_of(ranges::intersect(a, n, b, m, out))
 }
 
 #[no_mangle]
-pub extern "C" fn iz_ranges_from_ranges(l: &[u32], n: usize, out: &mut [u32]) -> Rows
-    ensures { λ r. ⌜ Crosses (of-ranges.FromRanges (now (l .entry)) n (length (now (out .entry))) (now (out .exit))) asRows r ⌝ }
+pub extern "C" fn iz_ranges_from_ranges(l: &[u32], n: usize, out: &mut [u32]) -> Made
+    ensures { λ r. ⌜ Crosses (of-ranges.FromRanges (now (l .entry)) n (length (now (out .entry))) (now (out .exit))) asMade r ⌝ }
 {
-    rows_of(ranges::from_ranges(l, n, out))
+    made_of(ranges::from_ranges(l, n, out))
 }
 
 // ## Id tables
@@ -931,12 +922,12 @@ pub extern "C" fn iz_ids_capture(
     to_clients: &mut [u64],
     to_starts: &mut [u32],
     to_ends: &mut [u32],
-) -> Rows
+) -> Made
     ensures { λ r. ⌜ Crosses (of-ids.Captured (held (now (clients .entry)) (now (starts .entry)) (now (ends .entry)) count)
         (three (now («to_clients» .entry)) (now («to_starts» .entry)) (now («to_ends» .entry)))
-        (three (now («to_clients» .exit)) (now («to_starts» .exit)) (now («to_ends» .exit)))) asRows r ⌝ }
+        (three (now («to_clients» .exit)) (now («to_starts» .exit)) (now («to_ends» .exit)))) asMade r ⌝ }
 {
-    rows_of(ids::capture(clients, starts, ends, count, to_clients, to_starts, to_ends))
+    made_of(ids::capture(clients, starts, ends, count, to_clients, to_starts, to_ends))
 }
 
 #[no_mangle]
@@ -951,12 +942,12 @@ pub extern "C" fn iz_ids_insert_range(
     to_clients: &mut [u64],
     to_starts: &mut [u32],
     to_ends: &mut [u32],
-) -> Rows
+) -> Made
     ensures { λ r. ⌜ Crosses (of-ids.Inserted (held (now (clients .entry)) (now (starts .entry)) (now (ends .entry)) count) (row client start end)
         (three (now («to_clients» .entry)) (now («to_starts» .entry)) (now («to_ends» .entry)))
-        (three (now («to_clients» .exit)) (now («to_starts» .exit)) (now («to_ends» .exit)))) asRows r ⌝ }
+        (three (now («to_clients» .exit)) (now («to_starts» .exit)) (now («to_ends» .exit)))) asMade r ⌝ }
 {
-    rows_of(ids::insert_range(
+    made_of(ids::insert_range(
         clients,
         starts,
         ends,
@@ -983,13 +974,13 @@ pub extern "C" fn iz_ids_merge(
     to_clients: &mut [u64],
     to_starts: &mut [u32],
     to_ends: &mut [u32],
-) -> Rows
+) -> Made
     ensures { λ r. ⌜ Crosses (of-ids.Merged (held (now (clients .entry)) (now (starts .entry)) (now (ends .entry)) count)
         (held (now («b_clients» .entry)) (now («b_starts» .entry)) (now («b_ends» .entry)) «b_count»)
         (three (now («to_clients» .entry)) (now («to_starts» .entry)) (now («to_ends» .entry)))
-        (three (now («to_clients» .exit)) (now («to_starts» .exit)) (now («to_ends» .exit)))) asRows r ⌝ }
+        (three (now («to_clients» .exit)) (now («to_starts» .exit)) (now («to_ends» .exit)))) asMade r ⌝ }
 {
-    rows_of(ids::merge(
+    made_of(ids::merge(
         clients,
         starts,
         ends,
@@ -1017,13 +1008,13 @@ pub extern "C" fn iz_ids_diff(
     to_clients: &mut [u64],
     to_starts: &mut [u32],
     to_ends: &mut [u32],
-) -> Rows
+) -> Made
     ensures { λ r. ⌜ Crosses (of-ids.Diffed (held (now (clients .entry)) (now (starts .entry)) (now (ends .entry)) count)
         (held (now («b_clients» .entry)) (now («b_starts» .entry)) (now («b_ends» .entry)) «b_count»)
         (three (now («to_clients» .entry)) (now («to_starts» .entry)) (now («to_ends» .entry)))
-        (three (now («to_clients» .exit)) (now («to_starts» .exit)) (now («to_ends» .exit)))) asRows r ⌝ }
+        (three (now («to_clients» .exit)) (now («to_starts» .exit)) (now («to_ends» .exit)))) asMade r ⌝ }
 {
-    rows_of(ids::diff(
+    made_of(ids::diff(
         clients,
         starts,
         ends,
@@ -1051,13 +1042,13 @@ pub extern "C" fn iz_ids_intersect(
     to_clients: &mut [u64],
     to_starts: &mut [u32],
     to_ends: &mut [u32],
-) -> Rows
+) -> Made
     ensures { λ r. ⌜ Crosses (of-ids.Intersected (held (now (clients .entry)) (now (starts .entry)) (now (ends .entry)) count)
         (held (now («b_clients» .entry)) (now («b_starts» .entry)) (now («b_ends» .entry)) «b_count»)
         (three (now («to_clients» .entry)) (now («to_starts» .entry)) (now («to_ends» .entry)))
-        (three (now («to_clients» .exit)) (now («to_starts» .exit)) (now («to_ends» .exit)))) asRows r ⌝ }
+        (three (now («to_clients» .exit)) (now («to_starts» .exit)) (now («to_ends» .exit)))) asMade r ⌝ }
 {
-    rows_of(ids::intersect(
+    made_of(ids::intersect(
         clients,
         starts,
         ends,
@@ -1080,10 +1071,10 @@ pub extern "C" fn iz_ids_contains(
     count: usize,
     client: u64,
     clock: u32,
-) -> YesNo
-    ensures { λ r. ⌜ Crosses (of-ids.Contains (held (now (clients .entry)) (now (starts .entry)) (now (ends .entry)) count) client clock) asYesNo r ⌝ }
+) -> Told
+    ensures { λ r. ⌜ Crosses (of-ids.Contains (held (now (clients .entry)) (now (starts .entry)) (now (ends .entry)) count) client clock) asTold r ⌝ }
 {
-    yes_no(ids::contains(clients, starts, ends, count, Client(client), Clock(clock)))
+    told_of(ids::contains(clients, starts, ends, count, Client(client), Clock(clock)))
 }
 
 #[no_mangle]
@@ -1092,26 +1083,26 @@ pub extern "C" fn iz_ids_is_empty(
     starts: &[u32],
     ends: &[u32],
     count: usize,
-) -> YesNo
-    ensures { λ r. ⌜ Crosses (of-ids.IsEmpty (held (now (clients .entry)) (now (starts .entry)) (now (ends .entry)) count)) asYesNo r ⌝ }
+) -> Told
+    ensures { λ r. ⌜ Crosses (of-ids.IsEmpty (held (now (clients .entry)) (now (starts .entry)) (now (ends .entry)) count)) asTold r ⌝ }
 {
-    yes_no(ids::is_empty(clients, starts, ends, count))
+    told_of(ids::is_empty(clients, starts, ends, count))
 }
 
 #[no_mangle]
-pub extern "C" fn iz_ids_len(clients: &[u64], starts: &[u32], ends: &[u32], count: usize) -> Count
-    ensures { λ r. ⌜ Crosses (of-ids.Len (held (now (clients .entry)) (now (starts .entry)) (now (ends .entry)) count)) asCount r ⌝ }
+pub extern "C" fn iz_ids_len(clients: &[u64], starts: &[u32], ends: &[u32], count: usize) -> Counted
+    ensures { λ r. ⌜ Crosses (of-ids.Len (held (now (clients .entry)) (now (starts .entry)) (now (ends .entry)) count)) asCounted r ⌝ }
 {
-    count_of(ids::len(clients, starts, ends, count))
+    counted_of(ids::len(clients, starts, ends, count))
 }
 
 // ## State vectors
 
 #[no_mangle]
-pub extern "C" fn iz_vector_get(clients: &[u64], clocks: &[u32], count: usize, client: u64) -> Value
-    ensures { λ r. ⌜ Crosses (of-vectors.Get (of-vectors.held (now (clients .entry)) (now (clocks .entry)) count) client) asValue r ⌝ }
+pub extern "C" fn iz_vector_get(clients: &[u64], clocks: &[u32], count: usize, client: u64) -> Got
+    ensures { λ r. ⌜ Crosses (of-vectors.Get (of-vectors.held (now (clients .entry)) (now (clocks .entry)) count) client) asGot r ⌝ }
 {
-    value_of(state_vector::get(clients, clocks, count, Client(client)))
+    got_of(state_vector::get(clients, clocks, count, Client(client)))
 }
 
 #[no_mangle]
@@ -1123,12 +1114,12 @@ pub extern "C" fn iz_vector_set_min(
     clock: u32,
     to_clients: &mut [u64],
     to_clocks: &mut [u32],
-) -> Rows
+) -> Made
     ensures { λ r. ⌜ Crosses (of-vectors.MinSet (of-vectors.held (now (clients .entry)) (now (clocks .entry)) count) client clock
         (two (now («to_clients» .entry)) (now («to_clocks» .entry)))
-        (two (now («to_clients» .exit)) (now («to_clocks» .exit)))) asRows r ⌝ }
+        (two (now («to_clients» .exit)) (now («to_clocks» .exit)))) asMade r ⌝ }
 {
-    rows_of(state_vector::set_min(
+    made_of(state_vector::set_min(
         clients,
         clocks,
         count,
@@ -1148,12 +1139,12 @@ pub extern "C" fn iz_vector_set_max(
     clock: u32,
     to_clients: &mut [u64],
     to_clocks: &mut [u32],
-) -> Rows
+) -> Made
     ensures { λ r. ⌜ Crosses (of-vectors.MaxSet (of-vectors.held (now (clients .entry)) (now (clocks .entry)) count) client clock
         (two (now («to_clients» .entry)) (now («to_clocks» .entry)))
-        (two (now («to_clients» .exit)) (now («to_clocks» .exit)))) asRows r ⌝ }
+        (two (now («to_clients» .exit)) (now («to_clocks» .exit)))) asMade r ⌝ }
 {
-    rows_of(state_vector::set_max(
+    made_of(state_vector::set_max(
         clients,
         clocks,
         count,
@@ -1174,13 +1165,13 @@ pub extern "C" fn iz_vector_merge(
     b_count: usize,
     to_clients: &mut [u64],
     to_clocks: &mut [u32],
-) -> Rows
+) -> Made
     ensures { λ r. ⌜ Crosses (of-vectors.Merged (of-vectors.held (now (clients .entry)) (now (clocks .entry)) count)
         (of-vectors.held (now («b_clients» .entry)) (now («b_clocks» .entry)) «b_count»)
         (two (now («to_clients» .entry)) (now («to_clocks» .entry)))
-        (two (now («to_clients» .exit)) (now («to_clocks» .exit)))) asRows r ⌝ }
+        (two (now («to_clients» .exit)) (now («to_clocks» .exit)))) asMade r ⌝ }
 {
-    rows_of(state_vector::merge(
+    made_of(state_vector::merge(
         clients,
         clocks,
         count,
@@ -1200,11 +1191,11 @@ pub extern "C" fn iz_vector_partial_cmp(
     b_clients: &[u64],
     b_clocks: &[u32],
     b_count: usize,
-) -> Verdict
+) -> Order
     ensures { λ r. ⌜ Crosses (of-vectors.Compared (of-vectors.held (now (clients .entry)) (now (clocks .entry)) count)
-        (of-vectors.held (now («b_clients» .entry)) (now («b_clocks» .entry)) «b_count»)) asVerdict r ⌝ }
+        (of-vectors.held (now («b_clients» .entry)) (now («b_clocks» .entry)) «b_count»)) asOrder r ⌝ }
 {
-    verdict_of(state_vector::partial_cmp(clients, clocks, count, b_clients, b_clocks, b_count))
+    order_of(state_vector::partial_cmp(clients, clocks, count, b_clients, b_clocks, b_count))
 }
 
 #[no_mangle]
@@ -1214,11 +1205,11 @@ pub extern "C" fn iz_vector_encode(
     count: usize,
     buf: &mut [u8],
     at: usize,
-) -> Place
-    ensures { λ r. ⌜ Encodes (of-vectors.held (now (clients .entry)) (now (clocks .entry)) count) (now (buf .entry)) at (placed r (now (buf .exit))) ⌝ }
+) -> Wrote
+    ensures { λ r. ⌜ Encodes (of-vectors.held (now (clients .entry)) (now (clocks .entry)) count) (now (buf .entry)) at (written r (now (buf .exit))) ⌝ }
 {
     let got = state_vector::encode(clients, clocks, count, buf, at);
-    place_of(got, at)
+    wrote_of(got, at)
 }
 
 #[no_mangle]
@@ -1227,10 +1218,10 @@ pub extern "C" fn iz_vector_decode(
     at: usize,
     to_clients: &mut [u64],
     to_clocks: &mut [u32],
-) -> Vector
+) -> Decoded
     ensures { λ r. ⌜ Crosses (λ d. Decodes (now (bytes .entry)) at (two (now («to_clients» .entry)) (now («to_clocks» .entry)))
-        (two (now («to_clients» .exit)) (now («to_clocks» .exit))) (saidDecoded at d)) (asVector at) r ⌝ }
+        (two (now («to_clients» .exit)) (now («to_clocks» .exit))) (saidDecoded at d)) (asDecoded at) r ⌝ }
 {
     let got = state_vector::decode(bytes, at, to_clients, to_clocks);
-    vector_of(got, at)
+    decoded_of(got, at)
 }

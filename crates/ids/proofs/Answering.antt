@@ -15,7 +15,7 @@ use Rattle.tables.specs.Inner.Rows as inner
 use Rattle.tables.specs.Inner.Sweep.{Holds}
 use Rattle.tables.specs.declared.Made.{Made}
 use Rattle.tables.specs.declared.Made.the-variants as made
-use Rattle.tables.proofs.Joining.{split}
+use Rattle.varint.proofs.Cases.{split}
 use Rattle.tables.proofs.Sets.{Means}
 use Rattle.ids.specs.Rows.{Row, TableOf}
 use Rattle.ids.specs.Rows as ids
@@ -30,7 +30,7 @@ pub record Alike (o o′ : Slices) : Type 0 where
   pub two : length (o .starts) ≡ length (o′ .starts)
   pub three′ : length (o .ends) ≡ length (o′ .ends)
 
-pub filled-alike : {o o′ : Slices} (t : List Row) → Alike o o′ → filled t o ≡ filled t o′
+pub filled-alike : {o o′ : Slices} (t : List Row) → Alike o o′ → filled o t ≡ filled o′ t
 filled-alike t a =
     λ i. record {
       clients = padded (a .one i) (map (λ (r : Row). r .client) t);
@@ -47,9 +47,9 @@ kept-most ok room k kept most p h = go ok (leb k room) refl p
     go true false e q = omega (arith, q .no′ refl)
     go false t e q = omega (arith, q .no′ refl)
 
-module _ (ok : Bool) (room k kept : ℕ) (o o′ : Slices) (p : Picked (ok && leb k room) k 0 kept) (t : o′ ≡ filled (rowsOf kept (o .clients) (o .starts) (o .ends)) o) where
-  stays : (v : ℕ) → kept ≡ v → o′ ≡ filled (rowsOf v (o .clients) (o .starts) (o .ends)) o
-  stays v e = t ∙ ap (λ (v : ℕ). filled (rowsOf v (o .clients) (o .starts) (o .ends)) o) e
+module _ (ok : Bool) (room k kept : ℕ) (o o′ : Slices) (p : Picked (ok && leb k room) k 0 kept) (t : o′ ≡ filled o (rowsOf kept (o .clients) (o .starts) (o .ends))) where
+  stays : (v : ℕ) → kept ≡ v → o′ ≡ filled o (rowsOf v (o .clients) (o .starts) (o .ends))
+  stays v e = t ∙ ap (λ (v : ℕ). filled o (rowsOf v (o .clients) (o .starts) (o .ends))) e
 
   pub finished-malformed : ok ≡ false → Finished ok room k o o′ (made.Refused Malformed)
   finished-malformed e =
@@ -99,7 +99,7 @@ module _ {good : Type 0} {right : List Row → Type 0} (o : Slices) {out : Slice
           let e : map gather rs ≡ rowsOf k cs ss es = ap (map gather) (sym (h .kept l)) ∙ gather-rows cs ss es f g k z in
           let q′ : k ≡ length (map gather rs) = sym (ap length e ∙ length-rows k cs ss es z) in
           subst (λ (x : Made). Writes good right o out x) (sym (d .0))
-          (done (map gather rs) p q (omega arith) (ap (λ (k : ℕ). answer 0 k) q′) (d .1 ∙ (filled-alike (rowsOf k cs ss es) a ∙ ap (λ (t : List Row). filled t o) (sym e))))
+          (done (map gather rs) p q (omega arith) (ap (λ (k : ℕ). answer 0 k) q′) (d .1 ∙ (filled-alike (rowsOf k cs ss es) a ∙ ap (filled o) (sym e))))
 
   pub finished : (ok : Bool) → Says good ok → (ok ≡ true → right (map gather rs)) → (ok ≡ true → Holds room (idRow cs ss es) k rs) → Finished ok room k (three cs ss es) out r → Writes good right o out r
   finished true s q h w = finished-right (s .right refl) (q refl) (h refl) w

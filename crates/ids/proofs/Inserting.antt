@@ -21,7 +21,7 @@ abbrev pub single : Row → Held
 single r = held (r .client ∷ []) (r .start ∷ []) (r .end ∷ []) 1
 
 single-table : (r : Row) → r .start < r .end → Table (single r)
-single-table r l = (lit≤ tt, (l, tt, tt))
+single-table r l = record { few = lit≤ tt; joined = (l, tt, tt) }
 
 module _ (a : Held) (r : Row) (o out : Slices) (x : Made) where
   pub merged-inserted : r .start < r .end → Merged a (single r) o out x → Inserted a r o out x
@@ -39,4 +39,4 @@ module _ (a : Held) (r : Row) (o out : Slices) (x : Made) where
   captured-inserted l g =
       gives-as (λ p. p) (λ p. p)
       (λ t p q. subst (λ (u : List Row). TableOf (λ c k. Holds (rows a) c k ⊎ Within r c k) u) (sym q)
-      (p .1, λ c k. ((λ h. inl h), ⊎-elim (λ h. h) (λ h. let z : ⊥ = omega arith in absurd z)))) g
+      (p .joined, λ c k. ((λ h. inl h), ⊎-elim (λ h. h) (λ h. let z : ⊥ = omega arith in absurd z)))) g

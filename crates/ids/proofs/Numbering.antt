@@ -1,5 +1,5 @@
 -- Rows by their index, and ids as places: the rule of an id table is the rule of joined rows. Assumes nothing.
-use mathlib.Core.Logic.{_⊎_, inl, inr, ⊎-elim}
+use mathlib.Core.Logic.{inl, inr, ⊎-elim}
 use mathlib.Core.Path.{_≡_, refl, ap, sym, subst, _∙_}
 use mathlib.Core.Bool.{Bool, true, false, _&&_, true≢false, false≢true}
 use mathlib.Core.List.{List, [], _∷_, _++_}
@@ -12,7 +12,7 @@ use mir.Val.{Fits}
 use Rattle.tables.specs.Answers.{Says}
 use Rattle.tables.specs.Inner.Rows as inner
 use Rattle.tables.specs.Inner.Rows.{span}
-use Rattle.tables.proofs.Joining.{split}
+use Rattle.varint.proofs.Cases.{split}
 use Rattle.tables.proofs.Spanning.{Links, spanned, length-span, span-on, padded-column}
 use Rattle.ids.specs.Rows.{Row, row, Before, Joined}
 use Rattle.ids.specs.Tables.{three, held, most, room, rowsOf, filled, Table}
@@ -49,13 +49,13 @@ length-rows n cs ss es f = ap length (rows-span n cs ss es f) ∙ length-span (i
 -- three columns filled one by one are the slices filled by rows
 pub filled-columns : (n : ℕ) (cs ss es xs ys zs xs′ ys′ zs′ : List ℕ) → Fit n cs ss es
     → xs′ ≡ take n cs ++ replicate (length xs - n) 0 → ys′ ≡ take n ss ++ replicate (length ys - n) 0 → zs′ ≡ take n es ++ replicate (length zs - n) 0
-    → three xs′ ys′ zs′ ≡ filled (rowsOf n cs ss es) (three xs ys zs)
+    → three xs′ ys′ zs′ ≡ filled (three xs ys zs) (rowsOf n cs ss es)
 filled-columns n cs ss es xs ys zs xs′ ys′ zs′ f p q u =
     let a = p ∙ padded-column (idAt cs ss es) (λ (r : Row). r .client) cs n (length xs) (λ j. refl) (f .one) in
     let b = q ∙ padded-column (idAt cs ss es) (λ (r : Row). r .start) ss n (length ys) (λ j. refl) (f .two) in
     let d = u ∙ padded-column (idAt cs ss es) (λ (r : Row). r .end) es n (length zs) (λ j. refl) (f .three′) in
-    let t : three xs′ ys′ zs′ ≡ filled (span (idAt cs ss es) 0 n) (three xs ys zs) = λ i. record { clients = a i; starts = b i; ends = d i } in
-    t ∙ ap (λ (l : List Row). filled l (three xs ys zs)) (sym (rows-span n cs ss es f))
+    let t : three xs′ ys′ zs′ ≡ filled (three xs ys zs) (span (idAt cs ss es) 0 n) = λ i. record { clients = a i; starts = b i; ends = d i } in
+    t ∙ ap (filled (three xs ys zs)) (sym (rows-span n cs ss es f))
 
 -- ## The rule of id tables, index by index
 
@@ -104,13 +104,16 @@ module _ (cs ss es : List ℕ) (f : Narrow ss) (g : Narrow es) where
 
   pub table-up : (n : ℕ) → IdTable cs ss es n → Table (held cs ss es n)
   table-up n t =
-      (t .few, subst Joined (sym (rows-span n cs ss es (fit n cs ss es (omega (arith, t .few))))) (joined-up 0 n (λ j h. t .filled j (omega arith)) (λ j h. t .apart j (omega arith))))
+      record {
+        few = t .few;
+        joined = subst Joined (sym (rows-span n cs ss es (fit n cs ss es (omega (arith, t .few))))) (joined-up 0 n (λ j h. t .filled j (omega arith)) (λ j h. t .apart j (omega arith)));
+      }
 
   pub table-down : (n : ℕ) → Table (held cs ss es n) → IdTable cs ss es n
   table-down n t =
-      let p : Joined (span (idAt cs ss es) 0 n) = subst Joined (rows-span n cs ss es (fit n cs ss es (omega (arith, t .0)))) (t .1) in
+      let p : Joined (span (idAt cs ss es) 0 n) = subst Joined (rows-span n cs ss es (fit n cs ss es (omega (arith, t .few)))) (t .joined) in
       record {
-        few = t .0;
+        few = t .few;
         filled = λ j h. filled-down 0 n p j (omega arith) (omega arith);
         apart = λ j h. apart-down 0 n p j (omega arith) (omega arith);
       }
@@ -127,7 +130,7 @@ module _ (cs ss es : List ℕ) (f : Narrow ss) (g : Narrow es) where
 
 pub unchecked : (cs ss es : List ℕ) (n : ℕ) → most (three cs ss es) < n → Checked cs ss es n false
 unchecked cs ss es n h =
-    record { says = record { right = λ e. absurd (false≢true e); wrong = λ _ t. omega (arith, t .0) }; table = λ e. absurd (false≢true e) }
+    record { says = record { right = λ e. absurd (false≢true e); wrong = λ _ t. omega (arith, t .few) }; table = λ e. absurd (false≢true e) }
 
 -- ## The rows of an id table are joined
 

@@ -8,7 +8,8 @@ use lib.ListN.{length, getD, set}
 use lib.Seq.{getD-set-same, getD-set-other}
 use Rattle.tables.specs.Inner.Rows as inner
 use Rattle.tables.specs.Inner.Unite.{Counted, Starts, Ends, Last, Adds}
-use Rattle.tables.proofs.Joining.{split, row-is}
+use Rattle.varint.proofs.Cases.{split}
+use Rattle.tables.proofs.Joining.{row-is}
 use Rattle.tables.proofs.Uniting.{adds, counted-some}
 use Rattle.ids.specs.Inner.{numberOf, idRow, Stored, Further, Open, Joins}
 

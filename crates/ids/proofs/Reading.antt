@@ -3,11 +3,12 @@
 use mathlib.Core.Logic.{_⊎_, inl, inr, ⊎-elim, _↔_}
 use mathlib.Core.Path.{_≡_, refl, ap₂, sym, subst, _∙_}
 use mathlib.Core.List.{List, [], _∷_, map}
-use Prim.Native.Nat.{ℕ, zero, suc, _+_, _-_, _*_, _/_, _%_, _≤_, _<_}
+use Prim.Native.Nat.{ℕ, zero, suc, _+_, _*_, _/_, _%_, _≤_, _<_}
 use native.Mathlib.Omega.{arith}
 use Rattle.tables.specs.Inner.Rows as inner
 use Rattle.tables.specs.Inner.Rows.{span, at, JoinedFrom, combined}
-use Rattle.tables.proofs.Joining.{split, at-here, at-past, at-before, at-below}
+use Rattle.varint.proofs.Cases.{split}
+use Rattle.tables.proofs.Joining.{at-here, at-past, at-before, at-below}
 use Rattle.tables.proofs.Meaning.{combined-joined, combined-at}
 use Rattle.tables.proofs.Closing.{Units, span-unit}
 use Rattle.tables.proofs.Sets.{Means, combined-units}

@@ -1,83 +1,49 @@
 -- Wrong programs that the promises exclude: document 01, "How tight the statements are" and "Errors that tempt". Assumes nothing.
 use mathlib.Core.Logic.{_⊎_, inl, inr, ⊎-elim, _↔_}
-use mathlib.Core.Path.{_≡_, refl, ap, ap₂, sym, subst, _∙_}
-use mathlib.Core.List.{List, [], _∷_, map}
-use Prim.Native.Nat.{ℕ, _-_, _≤_, _<_}
+use mathlib.Core.Path.{_≡_, refl, ap, _∙_}
+use mathlib.Core.List.{List, [], _∷_}
+use Prim.Native.Nat.{ℕ, _*_, _≤_, _<_}
 use native.Mathlib.Omega.{arith}
-use lib.ListN.{length, getD, length-map}
+use lib.ListN.{length, getD}
 use lib.Dec.{lit≤}
-use Rattle.varint.specs.declared.Refusal.the-variants.{Full}
-use Rattle.tables.specs.Answers.{Answer, padded, Gives, done, full, malformed}
+use Rattle.tables.specs.Answers.{Answer, Gives, done, full, malformed}
 use Rattle.tables.specs.declared.Made.{Made}
 use Rattle.tables.specs.declared.Made.the-variants as made
-use Rattle.tables.proofs.Below.{refusal-leaves, zeros}
-use Rattle.tables.proofs.Refuted as wrong
-use Rattle.tables.proofs.Refuted.{Tell, Shown, handed-out, padded-tell, padded-behind}
+use Rattle.tables.proofs.Below.{refusal-leaves}
+use Rattle.tables.proofs.Refuted.{Tell, Shown, handed-out, Column, column, column-tell, column-left, column-zeroed, columns-tell}
 use Rattle.ids.specs.Rows.{Row, row, Within, Holds, Joined, TableOf, union, difference, intersection}
 use Rattle.ids.specs.Tables.{Slices, Held, three, held, rows, most, Table, filled, Writes, Merged, Diffed, Intersected, Inserted, Captured}
 use Rattle.ids.proofs.Determined.{writes-one}
 
 -- ## Every routine that writes a table
 
--- rows by their columns
-columns-tell : (t u : List Row) → length t ≡ length u → map (λ (r : Row). r .client) t ≡ map (λ (r : Row). r .client) u → map (λ (r : Row). r .start) t ≡ map (λ (r : Row). r .start) u
-    → map (λ (r : Row). r .end) t ≡ map (λ (r : Row). r .end) u → t ≡ u
-columns-tell [] [] h a b c = refl
-columns-tell [] (r ∷ u) h a b c = absurd (omega arith)
-columns-tell (r ∷ t) [] h a b c = absurd (omega arith)
-columns-tell (r ∷ t) (s ∷ u) h a b c =
-    let x : r .client ≡ s .client = cc in
-    let y : r .start ≡ s .start = cc in
-    let z : r .end ≡ s .end = cc in
-    ap₂ _∷_ (λ i. record { client = x i; start = y i; end = z i }) (columns-tell t u (omega arith) (cc) (cc) (cc))
+-- the columns of an output
+abbrev clients : (o : Slices) → Column (filled o)
+clients o = column (λ (s : Slices). s .clients) (λ (r : Row). r .client) (length (o .clients)) (λ t. refl)
 
-filled-tell : (o : Slices) → Tell (λ t. filled t o)
-filled-tell o t u h e = columns-tell t u h
-    (column (λ (r : Row). r .client) (length (o .clients)) (ap (λ (s : Slices). s .clients) e))
-    (column (λ (r : Row). r .start) (length (o .starts)) (ap (λ (s : Slices). s .starts) e))
-    (column (λ (r : Row). r .end) (length (o .ends)) (ap (λ (s : Slices). s .ends) e))
-  where
-    column : (f : Row → ℕ) (n : ℕ) → padded n (map f t) ≡ padded n (map f u) → map f t ≡ map f u
-    column f n = padded-tell n (map f t) (map f u) (length-map t f ∙ h ∙ sym (length-map u f))
+abbrev starts : (o : Slices) → Column (filled o)
+starts o = column (λ (s : Slices). s .starts) (λ (r : Row). r .start) (length (o .starts)) (λ t. refl)
 
--- the element i of each slice
-abbrev At : (ℕ → Type 0) → ℕ → Slices → Type 0
-At P i o = P (getD (o .clients) i 0) × P (getD (o .starts) i 0) × P (getD (o .ends) i 0)
+abbrev ends : (o : Slices) → Column (filled o)
+ends o = column (λ (s : Slices). s .ends) (λ (r : Row). r .end) (length (o .ends)) (λ t. refl)
 
-module _ {ok : Type 0} {right : List Row → Type 0} (o : Slices) {out : Slices} where
-  -- FULL before MALFORMED
-  pub full-first : (ok → ⊥) → Writes ok right o out (made.Refused Full) → ⊥
-  full-first n = wrong.full-first n refl
+filled-tell : (o : Slices) → Tell (filled o)
+filled-tell o t u h e =
+    columns-tell ((λ (r : Row). r .client) ∷ (λ (r : Row). r .start) ∷ (λ (r : Row). r .end) ∷ [])
+    (λ r s f. λ i. record { client = f .0 i; start = f .1 .0 i; end = f .1 .1 .0 i })
+    t u h (column-tell (clients o) t u h e, (column-tell (starts o) t u h e, (column-tell (ends o) t u h e, tt)))
 
-  -- what stands behind the rows
-  pub zeroed : (n i : ℕ) → n ≤ i → Writes ok right o out (made.Rows n) → At (λ v. v ≡ 0) i out
-  zeroed n i h (done t k r m e f) = (
-    ap (λ (s : Slices). getD (s .clients) i 0) f ∙ behind (λ (r : Row). r .client) (length (o .clients)),
-    ap (λ (s : Slices). getD (s .starts) i 0) f ∙ behind (λ (r : Row). r .start) (length (o .starts)),
-    ap (λ (s : Slices). getD (s .ends) i 0) f ∙ behind (λ (r : Row). r .end) (length (o .ends)),
-  )
-    where
-      behind : (f : Row → ℕ) (len : ℕ) → getD (padded len (map f t)) i 0 ≡ 0
-      behind f len = padded-behind len (map f t) i (omega (arith, length-map t f, ap (λ (a : Answer ℕ). a .value) e))
-  zeroed n i h (full t k r m e f) = absurd (omega (arith, ap (λ (a : Answer ℕ). a .no) e))
-  zeroed n i h (malformed m e f) = absurd (omega (arith, ap (λ (a : Answer ℕ). a .no) e))
+-- the element i of each slice is zero
+abbrev Zero : ℕ → Slices → Type 0
+Zero i out = (getD (out .clients) i 0 ≡ 0) × (getD (out .starts) i 0 ≡ 0) × (getD (out .ends) i 0 ≡ 0)
+
+-- what stands behind the rows
+pub zeroed : {ok : Type 0} {right : List Row → Type 0} (o : Slices) {out : Slices} (n i : ℕ) → n ≤ i → Writes ok right o out (made.Rows n) → Zero i out
+zeroed o n i h g = let k : 1 * n ≤ i = omega arith in (column-zeroed (clients o) n i k g, column-zeroed (starts o) n i k g, column-zeroed (ends o) n i k g)
 
 -- rows that are not joined
-pub not-joined : {ok : Type 0} {ids : ℕ → ℕ → Type 0} (o : Slices) (t : List Row) → (Joined t → ⊥) → Writes ok (TableOf ids) o (filled t o) (made.Rows (length t)) → ⊥
+pub not-joined : {ok : Type 0} {ids : ℕ → ℕ → Type 0} (o : Slices) (t : List Row) → (Joined t → ⊥) → Writes ok (TableOf ids) o (filled o t) (made.Rows (length t)) → ⊥
 not-joined o t n h = n (handed-out (filled-tell o) t refl refl h .0)
-
-module _ {I : Type 0} {P : I → Slices → Slices → Made → Type 0} {back : I → List Row} (s : Shown most (λ o t. filled t o) P back) where
-  -- one that always says FULL
-  pub always-full : ((i : I) (o : Slices) → P i o (filled [] o) (made.Refused Full)) → ⊥
-  always-full = wrong.always-full filled-tell s
-
-  -- one constant table
-  pub constant : (t : List Row) → ((i : I) (o : Slices) → P i o (filled t o) (made.Rows (length t))) → ⊥
-  constant = wrong.constant filled-tell s
-
-  -- one that hands back its left table
-  pub left-table : ((i : I) (o : Slices) → P i o (filled (back i) o) (made.Rows (length (back i)))) → ⊥
-  left-table = wrong.handed-back filled-tell s
 
 abbrev none : Slices
 none = three [] [] []
@@ -85,9 +51,10 @@ none = three [] [] []
 -- shown by an input whose result is empty, one whose result has clock 0 of client 7, and one whose left table is wrong there
 module _ {I : Type 0} {P : I → Slices → Slices → Made → Type 0} {left : I → List Row} (ok : I → Type 0) (ids : I → ℕ → ℕ → Type 0)
     (is : (i : I) (o out : Slices) (r : Made) → P i o out r → Writes (ok i) (TableOf (ids i)) o out r) where
-  shown : (empty some other : I) → ((c k : ℕ) → ids empty c k → ⊥) → ids some 7 0 → (Holds (left other) 7 0 ↔ ids other 7 0 → ⊥) → Shown most (λ o t. filled t o) P left
+  shown : (empty some other : I) → ((c k : ℕ) → ids empty c k → ⊥) → ids some 7 0 → (Holds (left other) 7 0 ↔ ids other 7 0 → ⊥) → Shown most filled P left
   shown empty some other e f g =
       record {
+        tell = filled-tell;
         ok = ok;
         right = λ i. TableOf (ids i);
         is = λ i o p. is i o _ _ p;
@@ -118,26 +85,27 @@ within = (refl, lit≤ tt, lit≤ tt)
 empty-range : (c k : ℕ) → Within (row 7 0 0) c k → ⊥
 empty-range c k h = omega arith
 
-pub inserting : Shown most (λ o t. filled t o) (λ (i : Held × Row). Inserted (i .0) (i .1)) (λ i. rows (i .0))
+pub inserting : Shown most filled (λ (i : Held × Row). Inserted (i .0) (i .1)) (λ i. rows (i .0))
 inserting = shown (λ i. Table (i .0)) (λ i c k. Holds (rows (i .0)) c k ⊎ Within (i .1) c k) (λ i o out r p. p)
     (nothing, row 7 0 0) (nothing, row 7 0 1) (nothing, row 7 0 1) (λ c k. ⊎-elim (λ h. h) (empty-range c k)) (inr within) (λ h. h .1 (inr within))
 
-pub merging : Shown most (λ o t. filled t o) (λ (i : Held × Held). Merged (i .0) (i .1)) (λ i. rows (i .0))
+pub merging : Shown most filled (λ (i : Held × Held). Merged (i .0) (i .1)) (λ i. rows (i .0))
 merging = shown (λ i. Table (i .0) × Table (i .1)) (λ i. union (rows (i .0)) (rows (i .1))) (λ i o out r p. p)
     (nothing, nothing) (nothing, some) (nothing, some) (λ c k. ⊎-elim (λ h. h) (λ h. h)) (inr (inl within)) (λ h. h .1 (inr (inl within)))
 
-pub diffing : Shown most (λ o t. filled t o) (λ (i : Held × Held). Diffed (i .0) (i .1)) (λ i. rows (i .0))
+pub diffing : Shown most filled (λ (i : Held × Held). Diffed (i .0) (i .1)) (λ i. rows (i .0))
 diffing = shown (λ i. Table (i .0) × Table (i .1)) (λ i. difference (rows (i .0)) (rows (i .1))) (λ i o out r p. p)
     (nothing, nothing) (some, nothing) (some, some) (λ c k h. h .0) (inl within, λ h. h) (λ h. h .0 (inl within) .1 (inl within))
 
-pub intersecting : Shown most (λ o t. filled t o) (λ (i : Held × Held). Intersected (i .0) (i .1)) (λ i. rows (i .0))
+pub intersecting : Shown most filled (λ (i : Held × Held). Intersected (i .0) (i .1)) (λ i. rows (i .0))
 intersecting = shown (λ i. Table (i .0) × Table (i .1)) (λ i. intersection (rows (i .0)) (rows (i .1))) (λ i o out r p. p)
     (nothing, nothing) (some, some) (some, nothing) (λ c k h. h .0) (inl within, inl within) (λ h. h .0 (inl within) .1)
 
 -- of a capture: an empty table for the one that it copies
-pub capturing : Shown most (λ o t. filled t o) Captured (λ i. [])
+pub capturing : Shown most filled Captured (λ i. [])
 capturing =
     record {
+      tell = filled-tell;
       ok = Table;
       right = λ i t. t ≡ rows i;
       is = λ i o p. p;
@@ -163,16 +131,22 @@ row-short a o out n (malformed m e f) = absurd (omega (arith, ap (λ (b : Answer
 abbrev one : Slices
 one = three (0 ∷ []) (0 ∷ []) (0 ∷ [])
 
+none-table : Table nothing
+none-table = record { few = lit≤ tt; joined = tt }
+
+some-table : Table some
+some-table = record { few = lit≤ tt; joined = (lit≤ tt, tt, tt) }
+
 -- nothing without one row is nothing, and one row without nothing is the row: sides swapped, or the intersection or the union in its place, differ
-nothing-left : Diffed nothing some one (filled [] one) (made.Rows 0)
-nothing-left = done [] ((lit≤ tt, tt), (lit≤ tt, (lit≤ tt, tt, tt))) (tt, λ c k. ((λ h. absurd h), (λ h. h .0))) (lit≤ tt) refl refl
+nothing-left : Diffed nothing some one (filled one []) (made.Rows 0)
+nothing-left = done [] (none-table, some-table) (tt, λ c k. ((λ h. absurd h), (λ h. h .0))) (lit≤ tt) refl refl
 
 all-left : Diffed some nothing one (three (7 ∷ []) (0 ∷ []) (1 ∷ [])) (made.Rows 1)
 all-left =
-    done (row 7 0 1 ∷ []) ((lit≤ tt, (lit≤ tt, tt, tt)), (lit≤ tt, tt)) ((lit≤ tt, tt, tt), λ c k. ((λ h. (h, λ z. z)), (λ h. h .0))) (lit≤ tt) refl refl
+    done (row 7 0 1 ∷ []) (some-table, none-table) ((lit≤ tt, tt, tt), λ c k. ((λ h. (h, λ z. z)), (λ h. h .0))) (lit≤ tt) refl refl
 
-nothing-shared : Intersected some nothing one (filled [] one) (made.Rows 0)
-nothing-shared = done [] ((lit≤ tt, (lit≤ tt, tt, tt)), (lit≤ tt, tt)) (tt, λ c k. ((λ h. absurd h), (λ h. h .1))) (lit≤ tt) refl refl
+nothing-shared : Intersected some nothing one (filled one []) (made.Rows 0)
+nothing-shared = done [] (some-table, none-table) (tt, λ c k. ((λ h. absurd h), (λ h. h .1))) (lit≤ tt) refl refl
 
 differ : {A : Type 0} → made.Rows 0 ≡ made.Rows 1 → A
 differ e = absurd (let z : _≡_ {A = ℕ} 0 1 = cc in omega arith)
@@ -194,7 +168,7 @@ two = three (0 ∷ 0 ∷ []) (0 ∷ 0 ∷ []) (0 ∷ 0 ∷ [])
 
 other-client : Inserted some (row 8 1 2) two (three (7 ∷ 8 ∷ []) (0 ∷ 1 ∷ []) (1 ∷ 2 ∷ [])) (made.Rows 2)
 other-client =
-    done (row 7 0 1 ∷ row 8 1 2 ∷ []) (lit≤ tt, (lit≤ tt, tt, tt)) (
+    done (row 7 0 1 ∷ row 8 1 2 ∷ []) some-table (
       (lit≤ tt, inl (lit≤ tt), (lit≤ tt, tt, tt)),
       λ c k. (
         ⊎-elim (λ h. inl (inl h)) (⊎-elim (λ h. inr h) (λ h. absurd h)),
@@ -214,13 +188,8 @@ Left l = (i : ℕ) × (0 < getD l i 0)
 abbrev Leaves : Slices → Answer ℕ → Type 0
 Leaves out a = (0 < a .no) × ((0 < a .value) ⊎ (Left (out .clients) ⊎ (Left (out .starts) ⊎ Left (out .ends))))
 
-left-none : (n : ℕ) {l : List ℕ} → l ≡ padded n [] → Left l → ⊥
-left-none n e (i, h) = omega (arith, zeros (n - 0) i, subst (λ (l : List ℕ). 0 < getD l i 0) e h)
-
-pub leaves-none : {ok : Type 0} {right : List Row → Type 0} (o : Slices) {out : Slices} {a : Answer ℕ} → Gives ok right (most o) (λ t. filled t o) out a → Leaves out a → ⊥
-leaves-none o {out} {a} g (w, l) = ⊎-elim
-    (λ h. omega (arith, e .0))
-    (⊎-elim (left-none (length (o .clients)) (ap (λ (s : Slices). s .clients) (e .1))) (⊎-elim (left-none (length (o .starts)) (ap (λ (s : Slices). s .starts) (e .1))) (left-none (length (o .ends)) (ap (λ (s : Slices). s .ends) (e .1))))) l
+pub leaves-none : {ok : Type 0} {right : List Row → Type 0} (o : Slices) {out : Slices} {a : Answer ℕ} → Gives ok right (most o) (filled o) out a → Leaves out a → ⊥
+leaves-none o {out} {a} g (w, l) = ⊎-elim (λ h. omega (arith, e .0)) (⊎-elim (column-left (clients o) (e .1)) (⊎-elim (column-left (starts o) (e .1)) (column-left (ends o) (e .1)))) l
   where
-    e : (a .value ≡ 0) × (out ≡ filled [] o)
+    e : (a .value ≡ 0) × (out ≡ filled o [])
     e = refusal-leaves (λ z. omega arith) g

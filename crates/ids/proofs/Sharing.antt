@@ -10,7 +10,8 @@ use Rattle.tables.specs.Answers.{Says}
 use Rattle.tables.specs.Inner.Rows as inner
 use Rattle.tables.specs.Inner.Unite.{Passed}
 use Rattle.tables.specs.Inner.Differ.{GapStart, GapEnd}
-use Rattle.tables.proofs.Joining.{split, row-is}
+use Rattle.varint.proofs.Cases.{split}
+use Rattle.tables.proofs.Joining.{row-is}
 use Rattle.tables.proofs.Saying.{says-both}
 use Rattle.tables.proofs.Crossing.{Crossing}
 use Rattle.tables.proofs.Differing.{Differing, gap-left}

@@ -1,5 +1,5 @@
 -- An insert finds its place, and lays one row there in the place of those that it meets. Assumes nothing.
-use mathlib.Core.Logic.{_⊎_, ⊎-elim}
+use mathlib.Core.Logic.{⊎-elim}
 use mathlib.Core.Path.{_≡_, refl, ap, ap₂, sym, subst, _∙_}
 use mathlib.Core.Bool.{Bool}
 use mathlib.Core.List.{List, [], _∷_, _++_}
@@ -12,7 +12,8 @@ use Rattle.tables.specs.Inner.Rows as inner
 use Rattle.tables.specs.Inner.Rows.{span, combined}
 use Rattle.tables.specs.Inner.Sweep.{Holds}
 use Rattle.tables.specs.Inner.Edit.{Plain, Parted, starts, ends, Starting, Ending}
-use Rattle.tables.proofs.Joining.{split, piece, row-is}
+use Rattle.varint.proofs.Cases.{split}
+use Rattle.tables.proofs.Joining.{piece, row-is}
 use Rattle.tables.proofs.Copying.{Copied}
 use Rattle.tables.proofs.Spanning.{length-span, span-same}
 use Rattle.tables.proofs.Inserting.{inserted, range-one}
@@ -157,7 +158,7 @@ one-narrow s h (suc j) = omega arith
 pub both-one : {cs ss es : List ℕ} {n : ℕ} (ok : Bool) (c s e : ℕ) → s < e → Checked cs ss es n ok → Both cs ss es n (c ∷ []) (s ∷ []) (e ∷ []) 1 ok
 both-one ok c s e h t =
     record {
-      says = record { right = λ p. (t .says .right p, (lit≤ tt, (h, tt, tt))); wrong = λ p q. t .says .wrong p (q .0) };
+      says = record { right = λ p. (t .says .right p, record { few = lit≤ tt; joined = (h, tt, tt) }); wrong = λ p q. t .says .wrong p (q .0) };
       one = t .table;
       two = λ _. record { few = lit≤ tt; filled = λ j l. subst (λ (v : ℕ). getD (s ∷ []) v 0 < getD (e ∷ []) v 0) (let z : 0 ≡ j = omega arith in z) h; apart = λ j l. absurd (omega arith) };
     }

@@ -56,9 +56,9 @@ pub record Both (ac aS ae : List ℕ) (n : ℕ) (bc bs be : List ℕ) (m : ℕ) 
 
 -- the first k rows that stand in the output become the result; or there is no room for them, or the tables were malformed
 pub record Finished (ok : Bool) (room k : ℕ) (o o′ : Slices) (r : Made) : Type 0 where
-  pub done : ok ≡ true → k ≤ room → (r ≡ made.Rows k) × (o′ ≡ filled (rowsOf k (o .clients) (o .starts) (o .ends)) o)
-  pub full : ok ≡ true → room < k → (r ≡ made.Refused Full) × (o′ ≡ filled [] o)
-  pub malformed : ok ≡ false → (r ≡ made.Refused Malformed) × (o′ ≡ filled [] o)
+  pub done : ok ≡ true → k ≤ room → (r ≡ made.Rows k) × (o′ ≡ filled o (rowsOf k (o .clients) (o .starts) (o .ends)))
+  pub full : ok ≡ true → room < k → (r ≡ made.Refused Full) × (o′ ≡ filled o [])
+  pub malformed : ok ≡ false → (r ≡ made.Refused Malformed) × (o′ ≡ filled o [])
 
 -- ## A union, a row a step
 

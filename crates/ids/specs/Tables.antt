@@ -50,12 +50,13 @@ abbrev pub most : Slices → ℕ
 most o = min rowLimit (room o)
 
 -- well formed: "the count at most each slice's length", "Clients never fall; rows of one client obey the range rule."
-abbrev pub Table : Held → Type 0
-Table h = (h .count ≤ most (h .slices)) × Joined (rows h)
+pub record Table (h : Held) : Type 0 where
+  pub few : h .count ≤ most (h .slices)
+  pub joined : Joined (rows h)
 
 -- "the new table fills the front of the output and every later element of each output slice is zero"
-abbrev pub filled : List Row → Slices → Slices
-filled t o = record {
+abbrev pub filled : Slices → List Row → Slices
+filled o t = record {
   clients = padded (length (o .clients)) (map (λ (r : Row). r .client) t);
   starts = padded (length (o .starts)) (map (λ (r : Row). r .start) t);
   ends = padded (length (o .ends)) (map (λ (r : Row). r .end) t);
@@ -63,7 +64,7 @@ filled t o = record {
 
 -- "An operation reads its tables and writes another one."
 abbrev pub Writes : Type 0 → (List Row → Type 0) → Slices → Slices → Made → Type 0
-Writes ok right o out r = Gives ok right (most o) (λ t. filled t o) out (saidMade r)
+Writes ok right o out r = Gives ok right (most o) (filled o) out (saidMade r)
 
 -- "The id table has, per client, `insert_range`, `contains`, `merge`, `diff`, `intersect` with the same meaning": "`insert`". The ids of the table and those of
 -- the range, which has none where its start is not below its end: "ours adds no row"

@@ -128,8 +128,7 @@ fn pick_place(t: bool, x: usize, y: usize) -> usize
 fn trim(to_clients: &mut [u64], to_starts: &mut [u32], to_ends: &mut [u32], k: usize)
     requires { ⌜ k ≤ room (three (now «to_clients») (now «to_starts») (now «to_ends»)) ⌝ }
     ensures { λ r. ⌜ three (now («to_clients» .exit)) (now («to_starts» .exit)) (now («to_ends» .exit))
-        ≡ filled (rowsOf k (now («to_clients» .entry)) (now («to_starts» .entry)) (now («to_ends» .entry)))
-        (three (now («to_clients» .entry)) (now («to_starts» .entry)) (now («to_ends» .entry))) ⌝ }
+        ≡ filled (three (now («to_clients» .entry)) (now («to_starts» .entry)) (now («to_ends» .entry))) (rowsOf k (now («to_clients» .entry)) (now («to_starts» .entry)) (now («to_ends» .entry))) ⌝ }
 {
     tables::zero_wide(&mut to_clients[k..]);
     tables::zero(&mut to_starts[k..]);

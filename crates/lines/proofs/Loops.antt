@@ -1,5 +1,5 @@
 -- What each loop knows: the rest from here is the rest of the whole. Assumes nothing.
-use Prim.Native.Nat.{ℕ, zero, suc, _+_, _-_, _*_, _/_, _%_, _^_, _≤_, _<_, min, max}
+use Prim.Native.Nat.{ℕ, zero, suc, _+_, _-_, _*_, _/_, _%_, _^_, _≤_, _<_}
 use mathlib.Core.Path.{_≡_, refl, sym, ap, _∙_}
 use mathlib.Core.Bool.{Bool, true, false, cond}
 use mathlib.Core.List.{List, [], _∷_, _++_, append-nil}
@@ -8,15 +8,15 @@ use native.Mathlib.Nat.{pow-suc, add-suc}
 use native.Mathlib.Numerals.{add-one, unary-clauses}
 use borrow.Author.Needs.{needs}
 use borrow.Author.Tests.{eq-eqb, ne-eqb, lt-ltb, le-ltb, lt-leb, le-leb, leb-true, leb-false}
-use lib.Dec.{eqb, ltb, leb}
-use lib.ListN.{length, getD, take, drop, set, length-set, drop-of-length-le, List·getD-eq-default}
-use lib.Seq.{sets, sets-eq, drop-cons, drop-drop, getD-drop, drop-length}
+use lib.Dec.{eqb, leb}
+use lib.ListN.{length, getD, drop, set, drop-of-length-le, List·getD-eq-default}
+use lib.Seq.{sets, sets-eq, drop-cons, drop-drop, getD-drop}
 use Rattle.io.specs.Digits.{glyph, digits, Fewest}
 use Rattle.lines.specs.Put.{Put, taken, oneIf, nonzero}
 use Rattle.lines.specs.Line.{isDigit, steps, start, added, ended, after, numbers, past}
 use Rattle.lines.specs.Text.{decimalIn, decimal, gap, textFrom, text}
 use Rattle.lines.specs.declared.Reading.{Reading}
-use Rattle.lines.proofs.Putting.{Rest, begin, none, no-room, one, length-put, put-fits, put-front, last, all, full, part}
+use Rattle.lines.proofs.Putting.{Rest, begin, none, one, length-put, put-fits, put-front, last, all, full, part}
 
 -- Numbers by a step: n₀ - 1 behind x₀, of which left - 1 behind y are to come.
 pub record Stepping (m₀ : List ℕ) (k₀ n₀ step x₀ : ℕ) (m : List ℕ) (k left y : ℕ) : Type 0 where

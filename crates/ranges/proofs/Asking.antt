@@ -14,10 +14,10 @@ use Rattle.tables.specs.Answers.{answer, Says, Tells, says, refuses}
 use Rattle.tables.specs.Inner.Rows as inner
 use Rattle.tables.specs.Inner.Rows.{at, span}
 use Rattle.tables.specs.Inner.Edit.{Parted, ends}
+use Rattle.varint.proofs.Cases.{split}
 use Rattle.tables.proofs.Saying.{says-yes, says-no}
 use Rattle.tables.proofs.Finding.{ends-rise, look-right, look-left, look-at, look-empty}
-use Rattle.tables.proofs.Joining.{split}
-use Rattle.ranges.specs.Rows.{Row, Holds, findStart, clockStart, clockEnd, get}
+use Rattle.ranges.specs.Rows.{Holds, findStart, clockStart, clockEnd, get}
 use Rattle.ranges.specs.Tables.{rows, Table}
 use Rattle.ranges.specs.Inner.{rowAt, bare, Ruled}
 use Rattle.ranges.proofs.Plain.{plain, holds-plain}

@@ -6,7 +6,7 @@ use Prim.Native.Nat.{ℕ, zero, suc, _/_, _≤_}
 use native.Mathlib.Omega.{arith}
 use lib.ListN.{length, take}
 use Rattle.tables.specs.Answers.{Answer, Says}
-use Rattle.tables.proofs.Joining.{split}
+use Rattle.varint.proofs.Cases.{split}
 use Rattle.tables.proofs.Below.{Alike, alike-back, alike-rule, alike-both, gives-below, tells-below}
 use Rattle.tables.specs.declared.Made.{Made}
 use Rattle.tables.specs.declared.Told.{Told}
@@ -15,7 +15,7 @@ use Rattle.ranges.specs.declared.Place.{Place}
 use Rattle.ranges.specs.declared.Edge.{Edge}
 use Rattle.ranges.specs.declared.Found.{Found}
 use Rattle.ranges.specs.Rows.{Row, row, Holds, Joined, TableOf, union, difference, intersection, findStart, clockStart, clockEnd, get}
-use Rattle.ranges.specs.Tables.{rows, Table, Merged, Excluded, Intersected, Inserted, Removed, After, Fills, done, full, malformed, FromRanges, ContainsClock, FindStart, ClockStart, ClockEnd, Len, IsEmpty, Get}
+use Rattle.ranges.specs.Tables.{rows, most, Table, Merged, Excluded, Intersected, Inserted, Removed, After, Fills, done, full, malformed, FromRanges, ContainsClock, FindStart, ClockStart, ClockEnd, Len, IsEmpty, Get}
 
 -- the same rows below the count, which fits both slices or neither
 pub record Below (l l′ : List ℕ) (n : ℕ) : Type 0 where
@@ -24,9 +24,12 @@ pub record Below (l l′ : List ℕ) (n : ℕ) : Type 0 where
 back : {l l′ : List ℕ} {n : ℕ} → Below l l′ n → Below l′ l n
 back b = record { alike = alike-back (b .alike) }
 
+formed : (l : List ℕ) (n : ℕ) → ((n ≤ most (length l)) × Joined (rows l n)) ↔ Table l n
+formed l n = (λ p. record { few = p .0; joined = p .1 }, λ t. (t .few, t .joined))
+
 one : {l l′ : List ℕ} {n : ℕ} → Below l l′ n → Alike (Table l n) (Table l′ n) (rows l n) (rows l′ n)
-one b =
-    alike-rule Joined (record { rules = (λ h. omega (arith, b .alike .rules .0 (omega arith)), λ h. omega (arith, b .alike .rules .1 (omega arith))); same = b .alike .same })
+one {l} {l′} {n} b =
+    alike-rule Joined (formed l n) (formed l′ n) (record { rules = (λ h. omega (arith, b .alike .rules .0 (omega arith)), λ h. omega (arith, b .alike .rules .1 (omega arith))); same = b .alike .same })
 
 -- ## Each routine
 

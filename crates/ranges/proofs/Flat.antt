@@ -9,7 +9,7 @@ use Rattle.tables.specs.Inner.Rows.{span, Follows}
 use Rattle.tables.proofs.Spanning.{Links, unit-links, spanned, length-span, span-on}
 use Rattle.tables.proofs.Closing.{joined-follows}
 use Rattle.tables.proofs.Joining.{row-is}
-use Rattle.ranges.specs.Rows.{Row, Joined}
+use Rattle.ranges.specs.Rows.{Row}
 use Rattle.ranges.specs.Tables.{rows, Table, flat}
 use Rattle.ranges.specs.Inner.{rowAt, rowsOf, Ruled}
 use Rattle.ranges.proofs.Plain.{plain, plain-joined, joined-plain}
@@ -57,19 +57,19 @@ pub ruled-links : {l : List ℕ} {n : ℕ} → Ruled l n → (j : ℕ) → j < n
 ruled-links {l} t j h = unit-links (rowAt l) j (λ _. refl) (t .ruled j h)
 
 pub ruled-table : {l : List ℕ} {n : ℕ} → Ruled l n → Table l n
-ruled-table {l} {n} t = (
-  omega (arith, t .few, t .fits),
-  joined-plain 0 0 (rows l n)
-      (subst (λ (rs : inner.Rows). inner.Joined rs) (sym (rows-plain l n (t .fits))) (spanned (rowAt l) 0 0 0 n (λ j _ h. ruled-links t j (omega arith)) (λ _. omega arith) (λ _ _ e. omega arith))),
-)
+ruled-table {l} {n} t = record {
+  few = omega (arith, t .few, t .fits);
+  joined = joined-plain 0 0 (rows l n)
+      (subst (λ (rs : inner.Rows). inner.Joined rs) (sym (rows-plain l n (t .fits))) (spanned (rowAt l) 0 0 0 n (λ j _ h. ruled-links t j (omega arith)) (λ _. omega arith) (λ _ _ e. omega arith)));
+}
 
 pub table-ruled : {l : List ℕ} {n : ℕ} → Table l n → Ruled l n
-table-ruled {l} {n} t = record { few = omega (arith, t .0); fits = fits; ruled = λ i h. rule i h }
+table-ruled {l} {n} t = record { few = omega (arith, t .few); fits = fits; ruled = λ i h. rule i h }
   where
     fits : n ≤ length l / 2
-    fits = omega (arith, t .0)
+    fits = omega (arith, t .few)
 
     rule : (i : ℕ) → i < n → Follows (rowAt l) i
     rule i h =
-        let f = joined-follows 0 0 (rowAt l) 0 n (λ _. refl) (subst (λ (rs : inner.Rows). inner.Joined rs) (rows-plain l n fits) (plain-joined (rows l n) (t .1))) i (omega arith) (omega arith) in
+        let f = joined-follows 0 0 (rowAt l) 0 n (λ _. refl) (subst (λ (rs : inner.Rows). inner.Joined rs) (rows-plain l n fits) (plain-joined (rows l n) (t .joined))) i (omega arith) (omega arith) in
         record { filled = f .0; apart = f .1 }

@@ -14,7 +14,8 @@ use Rattle.tables.specs.Inner.Rows as inner
 use Rattle.tables.specs.Inner.Rows.{combined, union, span}
 use Rattle.tables.specs.Inner.Sweep as sweep
 use Rattle.tables.specs.Inner.Edit.{range, Parted, starts, ends, Starting, Ending, Moved}
-use Rattle.tables.proofs.Joining.{split, piece}
+use Rattle.varint.proofs.Cases.{split}
+use Rattle.tables.proofs.Joining.{piece}
 use Rattle.tables.proofs.Spanning.{length-span}
 use Rattle.tables.proofs.Sets.{union-means}
 use Rattle.tables.proofs.Inserting.{inserted, unchanged, range-one, unit-union, union-keeps}
@@ -134,7 +135,7 @@ module _ {l : List ℕ} {n i len : ℕ} {out : List ℕ} {k : ℕ} (g : Grown l 
         fits = g .fits;
         within = omega arith;
         same = c ∙ g .same;
-        ruled = table-ruled (omega (arith, c, g .same), now .0);
+        ruled = table-ruled (record { few = omega (arith, c, g .same); joined = now .0 });
         after = now;
         fitted = λ m p u q. ⊎-elim (λ z. g .fitted m (omega arith) u q) (λ z. last m (let w : m ≡ i + 1 = omega arith in w) u q) (split m (i + 1));
       }

@@ -9,8 +9,8 @@ use lib.ListN.{length}
 use Rattle.tables.specs.Limits.{rowLimit}
 use Rattle.tables.specs.Answers.{Says}
 use Rattle.tables.specs.Inner.Climb.{Climbs}
+use Rattle.varint.proofs.Cases.{split}
 use Rattle.tables.proofs.Climbing.{less-at}
-use Rattle.tables.proofs.Joining.{split}
 use Rattle.ranges.specs.Inner.{Ruled}
 
 ruled-climbs : {l : List ℕ} {n : ℕ} → Ruled l n → Climbs l (2 * n)

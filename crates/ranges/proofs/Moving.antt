@@ -9,7 +9,8 @@ use lib.Seq.{getD-set-other}
 use borrow.Author.Tests.{lt-ltb, le-ltb}
 use Rattle.tables.specs.Inner.Rows.{span}
 use Rattle.tables.specs.Inner.Edit.{range, Moved, Stands}
-use Rattle.tables.proofs.Joining.{split, row-is}
+use Rattle.varint.proofs.Cases.{split}
+use Rattle.tables.proofs.Joining.{row-is}
 use Rattle.tables.proofs.Copying.{Copied, copied-none, copied-more, Raised}
 use Rattle.ranges.specs.Inner.{rowAt}
 use Rattle.ranges.proofs.Stores.{added-below, added-at}

@@ -1,6 +1,6 @@
 -- The order matters to `from_ranges`: 0..1, 4..5, 1..4 and 0..1, 1..4, 4..5 end in the same table, 0..5. With room for one row the first
 -- order is FULL, for after two of its ranges there are two rows, and the second is done. Assumes nothing.
-use mathlib.Core.Logic.{_⊎_, inl, inr, ⊎-elim}
+use mathlib.Core.Logic.{inl, inr, ⊎-elim}
 use mathlib.Core.Path.{refl, subst}
 use mathlib.Core.List.{List, [], _∷_}
 use Prim.Native.Nat.{ℕ, zero, suc, _≤_}
@@ -8,9 +8,9 @@ use native.Mathlib.Omega.{arith}
 use lib.ListN.{length}
 use Rattle.varint.specs.declared.Refusal.the-variants.{Full}
 use Rattle.tables.specs.declared.Made.the-variants as made
-use Rattle.tables.proofs.Joining.{split}
 use Rattle.ranges.specs.Rows.{Row, row, Holds}
 use Rattle.ranges.specs.Tables.{rows, flat, most, After, done, full, FromRanges}
+use Rattle.varint.proofs.Cases.{split}
 use Rattle.ranges.proofs.Plain.{table-one}
 
 abbrev pub apart : List ℕ

@@ -9,7 +9,8 @@ use lib.ListN.{length, getD, take, drop, List·getD-append, length-take, length-
 use lib.Seq.{getD-take, getD-drop, getD-append-add}
 use Rattle.tables.specs.Inner.Rows.{Row}
 use Rattle.tables.specs.Inner.Edit.{Moved}
-use Rattle.tables.proofs.Joining.{split, row-is}
+use Rattle.varint.proofs.Cases.{split}
+use Rattle.tables.proofs.Joining.{row-is}
 use Rattle.ranges.specs.Inner.{rowAt}
 
 -- the elements from a on are lent, and ys stand there then

@@ -1,12 +1,13 @@
 -- The rows of a range table are the rows of weight 1 of the theory of joined rows; two tables of one set of clocks are equal. Assumes nothing.
-use mathlib.Core.Logic.{_⊎_, inl, inr, ⊎-elim, _↔_}
+use mathlib.Core.Logic.{inl, inr, ⊎-elim, _↔_}
 use mathlib.Core.Path.{_≡_, refl, ap, ap₂, sym, subst, _∙_}
 use mathlib.Core.List.{List, [], _∷_, map}
 use Prim.Native.Nat.{ℕ, _≤_, _<_}
 use native.Mathlib.Omega.{arith}
 use Rattle.tables.specs.Inner.Rows as inner
 use Rattle.tables.specs.Inner.Rows.{at, JoinedFrom, combined}
-use Rattle.tables.proofs.Joining.{split, at-here, at-past, at-before, unique}
+use Rattle.varint.proofs.Cases.{split}
+use Rattle.tables.proofs.Joining.{at-here, at-past, at-before, unique}
 use Rattle.tables.proofs.Meaning.{combined-joined, combined-at}
 use Rattle.tables.proofs.Closing.{Units}
 use Rattle.tables.proofs.Sets.{Means, combined-units}

@@ -7,7 +7,7 @@ use native.Mathlib.Omega.{arith}
 use lib.ListN.{length}
 use Rattle.tables.specs.Limits.{rowLimit}
 use Rattle.tables.specs.Inner.Edit.{Parted, Advanced, starts, ends}
-use Rattle.tables.proofs.Joining.{split}
+use Rattle.varint.proofs.Cases.{split}
 use Rattle.tables.proofs.Climbing.{Rising}
 use Rattle.tables.proofs.Inserting.{parted-all, parted-half, parted-met, parted-to, advanced-at, starts-rising, ends-rising}
 use Rattle.ranges.specs.Inner.{rowAt, Ruled}

@@ -1,19 +1,17 @@
 -- Wrong programs that the promises exclude: document 01, "How tight the statements are" and "Errors that tempt". Assumes nothing.
 use mathlib.Core.Logic.{_⊎_, inl, inr, ⊎-elim, _↔_}
-use mathlib.Core.Path.{_≡_, refl, ap, ap₂, subst}
+use mathlib.Core.Path.{_≡_, refl, ap, ap₂}
 use mathlib.Core.List.{List, [], _∷_}
-use Prim.Native.Nat.{ℕ, _-_, _*_, _≤_, _<_}
+use Prim.Native.Nat.{ℕ, _*_, _≤_, _<_}
 use native.Mathlib.Omega.{arith}
 use lib.ListN.{length, getD}
 use Rattle.varint.specs.declared.Refusal.the-variants.{Full}
-use Rattle.tables.specs.Answers.{Answer, Gives, done, full, malformed, says, refuses}
+use Rattle.tables.specs.Answers.{Answer, Gives, says, refuses}
 use Rattle.tables.specs.declared.Made.{Made}
 use Rattle.tables.specs.declared.Made.the-variants as made
 use Rattle.tables.specs.declared.Told.the-variants.{Yes}
 use Rattle.tables.proofs.Below as leaves
-use Rattle.tables.proofs.Below.{zeros}
-use Rattle.tables.proofs.Refuted as wrong
-use Rattle.tables.proofs.Refuted.{Tell, Shown, handed-out, padded-tell, padded-behind}
+use Rattle.tables.proofs.Refuted.{Tell, Shown, handed-out, Column, column-tell, column-left, column-zeroed}
 use Rattle.ranges.specs.Rows.{Row, row, Holds, Joined, TableOf, union, difference, intersection}
 use Rattle.ranges.specs.Tables.{rows, most, Table, flat, filled, Writes, Merged, Excluded, Intersected, Inserted, Removed, Fills, FromRanges, ContainsClock}
 use Rattle.ranges.specs.Tables as fills
@@ -33,37 +31,20 @@ flat-tell (r ∷ t) (s ∷ u) h e =
     let a : r .start ≡ s .start = cc in let b : r .end ≡ s .end = cc in let w : t ≡ u = flat-tell t u (omega arith) (cc) in
     ap₂ _∷_ (λ i. record { start = a i; end = b i }) w
 
+-- an output is one column, of two numbers for a row
+abbrev pairs : (len : ℕ) → Column (filled len)
+pairs len = record { slice = λ o. o; lay = flat; each = 2; many = length-flat; long = len; fills = λ t. refl }
+
 filled-tell : (len : ℕ) → Tell (filled len)
-filled-tell len t u h e = flat-tell t u h (padded-tell len (flat t) (flat u) (omega (arith, length-flat t, length-flat u)) e)
+filled-tell len t u h e = flat-tell t u h (column-tell (pairs len) t u h e)
 
-module _ {ok : Type 0} {clocks : ℕ → Type 0} (len : ℕ) {out : List ℕ} where
-  -- FULL before MALFORMED
-  pub full-first : (ok → ⊥) → Writes ok (TableOf clocks) len out (made.Refused Full) → ⊥
-  full-first n = wrong.full-first n refl
-
-  -- an element left behind the rows, be it the spare odd one
-  pub tail-left : (n i : ℕ) → 2 * n ≤ i → 0 < getD out i 0 → Writes ok (TableOf clocks) len out (made.Rows n) → ⊥
-  tail-left n i h l (done t o r m e f) =
-      omega (arith, ap (λ (a : Answer ℕ). a .value) e, length-flat t, ap (λ (x : List ℕ). getD x i 0) f, padded-behind len (flat t) i (omega (arith, ap (λ (a : Answer ℕ). a .value) e, length-flat t)))
-  tail-left n i h l (full t o r m e f) = omega (arith, ap (λ (a : Answer ℕ). a .no) e)
-  tail-left n i h l (malformed m e f) = omega (arith, ap (λ (a : Answer ℕ). a .no) e)
+-- an element left behind the rows, be it the spare odd one
+pub tail-left : {ok : Type 0} {clocks : ℕ → Type 0} (len : ℕ) {out : List ℕ} (n i : ℕ) → 2 * n ≤ i → 0 < getD out i 0 → Writes ok (TableOf clocks) len out (made.Rows n) → ⊥
+tail-left len n i h l g = omega (arith, l, column-zeroed (pairs len) n i h g)
 
 -- rows that are not joined: touching ones, such as 0..1 and 1..2
 pub not-joined : {ok : Type 0} {clocks : ℕ → Type 0} (len : ℕ) (t : List Row) → (Joined t → ⊥) → Writes ok (TableOf clocks) len (filled len t) (made.Rows (length t)) → ⊥
 not-joined len t n h = n (handed-out (filled-tell len) t refl refl h .0)
-
-module _ {I : Type 0} {P : I → ℕ → List ℕ → Made → Type 0} {left : I → List Row} (s : Shown most filled P left) where
-  -- one that always says FULL
-  pub always-full : ((i : I) (len : ℕ) → P i len (filled len []) (made.Refused Full)) → ⊥
-  always-full = wrong.always-full filled-tell s
-
-  -- one constant table
-  pub constant : (t : List Row) → ((i : I) (len : ℕ) → P i len (filled len t) (made.Rows (length t))) → ⊥
-  constant = wrong.constant filled-tell s
-
-  -- one that hands back its left table
-  pub left-table : ((i : I) (len : ℕ) → P i len (filled len (left i)) (made.Rows (length (left i)))) → ⊥
-  left-table = wrong.handed-back filled-tell s
 
 -- shown by an input whose result is empty, one whose result has clock 0, and one whose left table is wrong at clock 0
 module _ {I : Type 0} {P : I → ℕ → List ℕ → Made → Type 0} {left : I → List Row} (ok : I → Type 0) (clocks : I → ℕ → Type 0)
@@ -71,6 +52,7 @@ module _ {I : Type 0} {P : I → ℕ → List ℕ → Made → Type 0} {left : I
   shown : (none some other : I) → ((x : ℕ) → clocks none x → ⊥) → clocks some 0 → (Holds (left other) 0 ↔ clocks other 0 → ⊥) → Shown most filled P left
   shown none some other e f g =
       record {
+        tell = filled-tell;
         ok = ok;
         right = λ i. TableOf (clocks i);
         is = λ i len p. is i len _ _ p;
@@ -135,7 +117,7 @@ removing = shown (λ i. Table (i .0) (i .1)) (λ i. difference (rows (i .0) (i .
 -- "Rows [2..5, 5..7] as input: MALFORMED."
 pub touching : Table (2 ∷ 5 ∷ 5 ∷ 7 ∷ []) 2 → ⊥
 unfolding rows
-touching t = omega (arith, t .1 .1)
+touching t = omega (arith, t .joined .1)
 
 -- `end` taken as the last clock included
 pub end-included : ContainsClock (2 ∷ 5 ∷ []) 1 5 Yes → ⊥
@@ -157,9 +139,8 @@ abbrev Leaves : List ℕ → Answer ℕ → Type 0
 Leaves out a = (0 < a .no) × ((0 < a .value) ⊎ ((i : ℕ) × (0 < getD out i 0)))
 
 leaves-none : (len : ℕ) {out : List ℕ} {a : Answer ℕ} → (a .value ≡ 0) × (out ≡ filled len []) → Leaves out a → ⊥
-unfolding flat
 leaves-none len e (w, inl h) = omega (arith, e .0)
-leaves-none len e (w, inr (i, h)) = omega (arith, zeros (len - 0) i, subst (λ (o : List ℕ). 0 < getD o i 0) (e .1) h)
+leaves-none len e (w, inr l) = column-left (pairs len) (e .1) l
 
 -- of every routine that writes a table
 pub refusal-leaves : {ok : Type 0} {right : List Row → Type 0} (len : ℕ) {out : List ℕ} {a : Answer ℕ} → Gives ok right (most len) (filled len) out a → Leaves out a → ⊥

@@ -9,7 +9,7 @@ use Rattle.tables.specs.Limits.{rowLimit}
 use Rattle.tables.specs.Inner.Rows.{Row}
 use Rattle.tables.specs.Inner.Edit.{Starting}
 use Rattle.tables.specs.Inner.Unite.{Passed, Adds, Last, United}
-use Rattle.tables.proofs.Joining.{split}
+use Rattle.varint.proofs.Cases.{split}
 use Rattle.tables.proofs.Uniting.{united-none, united-swap, united-rest, less-left, rest-left, rest-right}
 use Rattle.tables.proofs.Taking.{united-take}
 use Rattle.ranges.specs.Inner.{rowAt, Ruled, Picked}

@@ -14,7 +14,7 @@ use Rattle.tables.specs.declared.Made.the-variants as made
 use Rattle.tables.specs.Inner.Rows as inner
 use Rattle.tables.specs.Inner.Rows.{combined}
 use Rattle.tables.specs.Inner.Sweep.{Holds}
-use Rattle.tables.proofs.Joining.{split}
+use Rattle.varint.proofs.Cases.{split}
 use Rattle.tables.proofs.Spanning.{length-span}
 use Rattle.tables.proofs.Pushing.{holds-room}
 use Rattle.tables.proofs.Sets.{Means}
@@ -80,7 +80,10 @@ gives-combined {f} {P} {a} {b} {n} {m} {len} {out} {r} s p q w =
 pub written : (len : ℕ) (t : List Row) → reader.Joined t → length t ≤ most len → Table (filled len t) (length t) × (rows (filled len t) (length t) ≡ t)
 written len t j h =
     let e : rows (filled len t) (length t) ≡ t = read-flat t _ in (
-      (omega (arith, length-append (flat t) (replicate (len - length (flat t)) 0), length-flat t, length-replicate {A = ℕ} (len - length (flat t)) 0), subst (λ (u : List Row). reader.Joined u) (sym e) j),
+      record {
+        few = omega (arith, length-append (flat t) (replicate (len - length (flat t)) 0), length-flat t, length-replicate {A = ℕ} (len - length (flat t)) 0);
+        joined = subst (λ (u : List Row). reader.Joined u) (sym e) j;
+      },
       e,
     )
 

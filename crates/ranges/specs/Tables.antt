@@ -32,8 +32,9 @@ abbrev pub most : ℕ → ℕ
 most len = min rowLimit (len / 2)
 
 -- "Well formed: n at most 1,024 and at most half the slice's length rounded down; each start < end; each end < the next start."
-abbrev pub Table : List ℕ → ℕ → Type 0
-Table l n = (n ≤ most (length l)) × Joined (rows l n)
+pub record Table (l : List ℕ) (n : ℕ) : Type 0 where
+  pub few : n ≤ most (length l)
+  pub joined : Joined (rows l n)
 
 -- "start, end, start, end"
 unfoldable pub flat : List Row → List ℕ

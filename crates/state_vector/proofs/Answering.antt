@@ -16,11 +16,11 @@ formed s e = s .right (not-false _ e)
 
 -- a table is not: the only one, the left one, the right one
 module _ (o₀ : Slices) {out : Slices} {right : List Row → Type 0} {h : Held} {r : Bool} where
-  pub refused-one : Says (Table h) r → not r ≡ true → out ≡ filled [] o₀ → Writes (Table h) right o₀ out (made.Refused Malformed)
+  pub refused-one : Says (Table h) r → not r ≡ true → out ≡ filled o₀ [] → Writes (Table h) right o₀ out (made.Refused Malformed)
   refused-one s e f = refused o₀ (s .wrong (not-true _ e)) f
 
-  pub refused-left : {g : Held} → Says (Table h) r → not r ≡ true → out ≡ filled [] o₀ → Writes (Table h × Table g) right o₀ out (made.Refused Malformed)
+  pub refused-left : {g : Held} → Says (Table h) r → not r ≡ true → out ≡ filled o₀ [] → Writes (Table h × Table g) right o₀ out (made.Refused Malformed)
   refused-left s e f = refused o₀ (λ w. s .wrong (not-true _ e) (w .0)) f
 
-  pub refused-right : {g : Held} → Says (Table h) r → not r ≡ true → out ≡ filled [] o₀ → Writes (Table g × Table h) right o₀ out (made.Refused Malformed)
+  pub refused-right : {g : Held} → Says (Table h) r → not r ≡ true → out ≡ filled o₀ [] → Writes (Table g × Table h) right o₀ out (made.Refused Malformed)
   refused-right s e f = refused o₀ (λ w. s .wrong (not-true _ e) (w .1)) f

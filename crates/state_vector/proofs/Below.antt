@@ -1,10 +1,10 @@
 -- "Answers depend only on rows below the count": vectors with the same rows get the same promise from every routine that reads one, whatever else stands in
 -- their slices. Assumes nothing.
-use mathlib.Core.Path.{_≡_, ap, subst, _∙_}
+use mathlib.Core.Path.{_≡_, ap, _∙_}
 use mathlib.Core.Logic.{_↔_}
 use mathlib.Core.List.{List}
 use Prim.Native.Nat.{ℕ, _≤_}
-use Rattle.tables.proofs.Below.{Alike, alike-back, alike-both, gives-below, tells-below}
+use Rattle.tables.proofs.Below.{Alike, alike-back, alike-rule, alike-both, gives-below, tells-below}
 use Rattle.tables.specs.declared.Made.{Made}
 use Rattle.varint.specs.Number.{Written, writeAt}
 use Rattle.varint.specs.declared.Wrote.{Wrote}
@@ -19,14 +19,11 @@ use Rattle.state_vector.specs.declared.Order.{Order}
 pub record Below (a b : Held) : Type 0 where
   pub alike : Alike (a .count ≤ most (a .slices)) (b .count ≤ most (b .slices)) (rows a) (rows b)
 
-back : {a b : Held} → Below a b → Below b a
-back s = record { alike = alike-back (s .alike) }
-
-table : {a b : Held} → Below a b → Table a → Table b
-table s t = record { few = s .alike .rules .0 (t .few); rising = subst Rising (s .alike .same) (t .rising) }
+formed : (h : Held) → ((h .count ≤ most (h .slices)) × Rising (rows h)) ↔ Table h
+formed h = (λ p. record { few = p .0; rising = p .1 }, λ t. (t .few, t .rising))
 
 one : {a b : Held} → Below a b → Alike (Table a) (Table b) (rows a) (rows b)
-one s = record { rules = (table s, table (back s)); same = s .alike .same }
+one {a} {b} s = alike-rule Rising (formed a) (formed b) (s .alike)
 
 -- ## Each routine that reads a vector
 
@@ -40,12 +37,12 @@ module _ {a b : Held} (s : Below a b) where
   pub set-max-below : (c k : ℕ) (o out : Slices) (r : Made) → MaxSet a c k o out r ↔ MaxSet b c k o out r
   set-max-below c k o out r = gives-below (λ t. SetMax t c k) (one s)
 
-  encodes : {buf : List ℕ} {place : ℕ} {w : Written} → Encodes a buf place w → Encodes b buf place w
-  encodes {buf} {place} (writes t e) = writes (table s t) (e ∙ ap (λ (l : List Row). writeAt (encoded l) buf place) (s .alike .same))
-  encodes (bytes.malformed n e) = bytes.malformed (λ t. n (table (back s) t)) e
+encodes : {a b : Held} {buf : List ℕ} {place : ℕ} {w : Written} → Alike (Table a) (Table b) (rows a) (rows b) → Encodes a buf place w → Encodes b buf place w
+encodes {buf = buf} {place = place} k (writes t e) = writes (k .rules .0 t) (e ∙ ap (λ (l : List Row). writeAt (encoded l) buf place) (k .same))
+encodes k (bytes.malformed n e) = bytes.malformed (λ t. n (k .rules .1 t)) e
 
 pub encode-below : {a b : Held} → Below a b → (buf : List ℕ) (place : ℕ) (r : Wrote) (after : List ℕ) → Encoded a buf place r after ↔ Encoded b buf place r after
-encode-below s buf place r after = (encodes s, encodes (back s))
+encode-below s buf place r after = (encodes (one s), encodes (alike-back (one s)))
 
 module _ {a a′ b b′ : Held} (s : Below a a′) (u : Below b b′) where
   pub merge-below : (o out : Slices) (r : Made) → Merged a b o out r ↔ Merged a′ b′ o out r

@@ -16,6 +16,7 @@ use Rattle.varint.specs.declared.ReadU32.{ReadU32}
 use Rattle.varint.specs.declared.ReadU32.the-variants as u32
 use Rattle.varint.specs.declared.ReadU64.{ReadU64}
 use Rattle.varint.specs.declared.ReadU64.the-variants as u64
+use Rattle.varint.proofs.Cases.{same-or-not}
 use Rattle.varint.proofs.Chaining.{done64, refused64, done32, refused32}
 use Rattle.state_vector.specs.Rows.{Row, row, In, at, Rising, VectorOf}
 use Rattle.state_vector.specs.Vectors.{Slices, held, rowsOf, most, Table, filled}
@@ -24,7 +25,7 @@ use Rattle.tables.specs.Inner.Rows.{span}
 use Rattle.state_vector.specs.Inner.{rowAt, put, Holds, Reads, all, none}
 use Rattle.state_vector.specs.declared.Decoded.{Decoded}
 use Rattle.state_vector.specs.declared.Decoded.the-variants as decoded
-use Rattle.state_vector.proofs.Looking.{look, look-here, look-past, same-or-not, at-look, in-look, look-in, look-put-same, look-put-other, put-rising, length-put-new, length-put-old}
+use Rattle.state_vector.proofs.Looking.{look, look-here, look-past, at-look, in-look, look-in, look-put-same, look-put-other, put-rising, length-put-new, length-put-old}
 use Rattle.tables.proofs.Spanning.{length-span}
 use Rattle.state_vector.proofs.Spanning.{rows-span}
 use Rattle.state_vector.proofs.Storing.{filled-same}
@@ -177,28 +178,28 @@ module _ (bytes : List ℕ) (p : ℕ) where
   vector-pairs m d q = sym (done32 _ stop _ p d q refl)
 
   module _ (o₀ : Slices) where
-    pub decodes-none : {out : Slices} {r : ReadU32} {e x : Refusal} → r ≡ u32.Refused e → x ≡ why32 r → said32 p r ≡ readAt 32 bytes p → out ≡ filled [] o₀ → Decodes bytes p o₀ out (saidDecoded p (decoded.Refused x))
+    pub decodes-none : {out : Slices} {r : ReadU32} {e x : Refusal} → r ≡ u32.Refused e → x ≡ why32 r → said32 p r ≡ readAt 32 bytes p → out ≡ filled o₀ [] → Decodes bytes p o₀ out (saidDecoded p (decoded.Refused x))
     decodes-none {x = x} d w q f = refused (noOf x) (vector-none (most o₀) d w q) refl f
 
     module _ (o : Slices) {m : ℕ} {r : ReadU32} {n q : ℕ} {a : Decoded} (em : m ≡ most o₀) (d : r ≡ u32.Done n q) (z : said32 p r ≡ readAt 32 bytes p) (g : Reads m (pairsAt m bytes n [] q) o a) where
       whole : {x : Pairs} → pairsAt m bytes n [] q ≡ x → vectorAt (most o₀) bytes p ≡ x
       whole h = ap (λ (k : ℕ). vectorAt k bytes p) (sym em) ∙ vector-pairs m d z ∙ h
 
-      pub decodes-stopped : {out : Slices} {w : Refusal} → a ≡ decoded.Refused w → length (o .clients) ≡ length (o₀ .clients) → length (o .clocks) ≡ length (o₀ .clocks) → out ≡ filled [] o → Decodes bytes p o₀ out (saidDecoded p a)
+      pub decodes-stopped : {out : Slices} {w : Refusal} → a ≡ decoded.Refused w → length (o .clients) ≡ length (o₀ .clients) → length (o .clocks) ≡ length (o₀ .clocks) → out ≡ filled o [] → Decodes bytes p o₀ out (saidDecoded p a)
       decodes-stopped {out} {w} e lc lk f = go g
         where
           go : Reads m (pairsAt m bytes n [] q) o a → Decodes bytes p o₀ out (saidDecoded p a)
           go (all got t i j h k v s l) = absurd (let y : _≡_ {A = ℕ} 0 1 = cc in omega arith)
           go (none x h k) = refused (noOf x) (whole h) (ap (saidDecoded p) k) (f ∙ filled-same [] o o₀ lc lk)
 
-      pub decodes-all : {out : Slices} {i j : ℕ} → a ≡ decoded.Done i j → length (o .clients) ≡ length (o₀ .clients) → length (o .clocks) ≡ length (o₀ .clocks) → out ≡ filled (span (rowAt o) 0 i) o → Decodes bytes p o₀ out (saidDecoded p (decoded.Done i j))
+      pub decodes-all : {out : Slices} {i j : ℕ} → a ≡ decoded.Done i j → length (o .clients) ≡ length (o₀ .clients) → length (o .clocks) ≡ length (o₀ .clocks) → out ≡ filled o (span (rowAt o) 0 i) → Decodes bytes p o₀ out (saidDecoded p (decoded.Done i j))
       decodes-all {out} {i} {j} e lc lk f = go g
         where
           go : Reads m (pairsAt m bytes n [] q) o a → Decodes bytes p o₀ out (saidDecoded p (decoded.Done i j))
           go (all got t i′ j′ h k v s l) =
               let y : i ≡ i′ = cc in
               done got t j′ (whole h) v (ap (saidDecoded p) (sym e ∙ k) ∙ ap (λ (x : ℕ). decoding 0 x j′) (sym (s .many)))
-              (f ∙ ap (λ (x : ℕ). filled (span (rowAt o) 0 x) o) y ∙ ap (λ (x : List Row). filled x o) (s .stand l) ∙ filled-same t o o₀ lc lk)
+              (f ∙ ap (λ (x : ℕ). filled o (span (rowAt o) 0 x)) y ∙ ap (filled o) (s .stand l) ∙ filled-same t o o₀ lc lk)
           go (none x h k) = absurd (let y : _≡_ {A = ℕ} 0 1 = cc in omega arith)
 
 pub decoded-fits : {m : ℕ} {x : Pairs} {o : Slices} {a : Decoded} {i j : ℕ} (k : ℕ) → Reads m x o a → a ≡ decoded.Done i j → m ≤ k → i ≤ k

@@ -117,7 +117,7 @@ decodings bs place o out out′ d d′ (bytes.done got t p e v f g) (bytes.done 
     let x : got ≡ got′ = cc in
     let y : p ≡ p′ = cc in
     let z : t ≡ t′ = vector-one t t′ v (subst (λ (l : List Row). VectorOf (In l) (at l) t′) (sym x) v′) in
-    (f ∙ ap₂ (λ (u : List Row) (w : ℕ). bytes.decoding 0 (length u) w) z y ∙ sym f′, g ∙ ap (λ (u : List Row). filled u o) z ∙ sym g′)
+    (f ∙ ap₂ (λ (u : List Row) (w : ℕ). bytes.decoding 0 (length u) w) z y ∙ sym f′, g ∙ ap (filled o) z ∙ sym g′)
 decodings bs place o out out′ d d′ (bytes.done got t p e v f g) (bytes.refused n e′ f′ g′) = absurd (let z : _≡_ {A = ℕ} 0 1 = cc in omega arith)
 decodings bs place o out out′ d d′ (bytes.refused n e f g) (bytes.done got t p e′ v f′ g′) = absurd (let z : _≡_ {A = ℕ} 0 1 = cc in omega arith)
 decodings bs place o out out′ d d′ (bytes.refused n e f g) (bytes.refused n′ e′ f′ g′) =

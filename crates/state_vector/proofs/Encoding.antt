@@ -13,7 +13,7 @@ use Rattle.varint.specs.declared.Refusal.{Refusal}
 use Rattle.varint.specs.declared.Wrote.{Wrote}
 use Rattle.varint.specs.declared.Wrote.the-variants as answer
 use Rattle.varint.proofs.Chaining.{Put, put, unput, put-writes, put-length, put-both}
-use Rattle.varint.proofs.Writing.{bytes-most}
+use Rattle.varint.proofs.Writing.{bytes-most, u32-most, u64-most}
 use Rattle.state_vector.specs.Rows.{Row}
 use Rattle.state_vector.specs.Vectors.{Slices, two, Held, held, rowsOf, rows, Table}
 use Rattle.state_vector.specs.Bytes.{rowBytes, encoded, Typed}
@@ -23,12 +23,6 @@ use Rattle.tables.proofs.Spanning.{length-span, span-none}
 use Rattle.state_vector.proofs.Spanning.{span-next, table-span, length-rows}
 
 -- ## How many
-
-pub client-bytes : (c : ℕ) → c < 2 ^ 64 → length (bytesOf c) ≤ 10
-client-bytes c h = bytes-most 9 c (omega arith)
-
-pub clock-bytes : (k : ℕ) → k < 2 ^ 32 → length (bytesOf k) ≤ 5
-clock-bytes k h = bytes-most 4 k (omega arith)
 
 row-length : (r : Row) (t : List Row) → length (rowBytes (r ∷ t)) ≡ length (bytesOf (r .client)) + length (bytesOf (r .clock)) + length (rowBytes t)
 unfolding rowBytes
@@ -53,7 +47,7 @@ words {o} t n = go n (o .clients) (o .clocks) (λ j. t .clients j .fits) (λ j. 
 rows-most : (t : List Row) → Words t → length (rowBytes t) ≤ 15 * length t
 unfolding rowBytes Words
 rows-most [] w = omega arith
-rows-most (r ∷ t) w = omega (arith, row-length r t, client-bytes (r .client) (w .0), clock-bytes (r .clock) (w .1), rows-most t (w .2))
+rows-most (r ∷ t) w = omega (arith, row-length r t, u64-most (r .client) (w .0), u32-most (r .clock) (w .1), rows-most t (w .2))
 
 -- A VECTOR HAS AT MOST 3,842 BYTES
 pub encoded-most : {a : Held} → Table a → Typed (a .slices) → length (encoded (rows a)) ≤ 3842
@@ -86,7 +80,7 @@ summing-none f n sum h e = record {
 }
 
 pub row-most : {c k : ℕ} (r : Row) → c ≡ length (bytesOf (r .client)) → k ≡ length (bytesOf (r .clock)) → r .client < 2 ^ 64 → r .clock < 2 ^ 32 → c + k ≤ 15
-row-most r p q a b = omega (arith, client-bytes (r .client) a, clock-bytes (r .clock) b)
+row-most r p q a b = omega (arith, u64-most (r .client) a, u32-most (r .clock) b)
 
 pub summing-more : {f : ℕ → Row} {n i sum c k : ℕ} → Summing f n i sum → i < n → c ≡ length (bytesOf (f i .client)) → k ≡ length (bytesOf (f i .clock))
     → f i .client < 2 ^ 64 → f i .clock < 2 ^ 32 → Summing f n (i + 1) (sum + (c + k))

@@ -3,7 +3,7 @@ use mathlib.Core.Path.{_≡_, refl, ap, sym, subst, _∙_}
 use mathlib.Core.Logic.{⊎-elim}
 use mathlib.Core.Bool.{Bool, true, false, cond}
 use mathlib.Core.List.{List, [], _∷_}
-use Prim.Native.Nat.{ℕ, zero, suc, _+_, _-_, _≤_, _<_, min}
+use Prim.Native.Nat.{ℕ, zero, suc, _+_, _≤_, _<_, min}
 use native.Mathlib.Omega.{arith}
 use lib.Dec.{eqb}
 use lib.ListN.{length, getD, set}
@@ -14,12 +14,12 @@ use Rattle.varint.specs.declared.Refusal.the-variants.{Full}
 use Rattle.tables.specs.Answers.{full}
 use Rattle.tables.specs.declared.Made.the-variants as made
 use Rattle.state_vector.specs.Inner.{Finds, Stands, Firsts, element, rowAt, put, Holds, Opens}
-use Rattle.state_vector.proofs.Looking.{look, same-or-not, at-look, length-put-new, length-put-old, set-right}
+use Rattle.varint.proofs.Cases.{split, same-or-not}
+use Rattle.state_vector.proofs.Looking.{look, at-look, length-put-new, length-put-old, set-right}
 use Rattle.tables.proofs.Spanning.{span-same}
 use Rattle.state_vector.proofs.Spanning.{rows-span, look-none, look-found, put-found, put-new, table-span, length-rows, table-rising, table-climbs}
 use Rattle.state_vector.proofs.Loops.{climbs-less}
 use Rattle.state_vector.proofs.Storing.{row-of}
-use Rattle.varint.proofs.Writing.{lt-or-ge}
 
 -- `smaller` by what `look` finds
 abbrev lower : ℕ → ℕ → ℕ
@@ -42,7 +42,7 @@ module _ {cs ks : List ℕ} {n c i : ℕ} (t : Table (held cs ks n)) (f : Finds 
   -- every other row is of another client
   apart : (j : ℕ) → j < n → (j ≡ i → ⊥) → c ≡ getD cs j 0 → ⊥
   apart j b q e = ⊎-elim (λ (l : j < i). omega (arith, f .below j l))
-      (λ (l : i ≤ j). omega (arith, climbs-less (table-climbs t) i j (omega arith) b, f .above i (omega arith) (omega arith))) (lt-or-ge j i)
+      (λ (l : i ≤ j). omega (arith, climbs-less (table-climbs t) i j (omega arith) b, f .above i (omega arith) (omega arith))) (split j i)
 
   lacks : (Stands cs n i c → ⊥) → look (rowsOf n cs ks) c ≡ 0
   lacks h = ap (λ (l : List Row). look l c) (table-span t) ∙ look-none (rowAt (two cs ks)) c 0 n
@@ -98,7 +98,7 @@ length-put-le : (r : Row) (t : List Row) → Rising t → length t ≤ length (p
 length-put-le r t g = ⊎-elim (λ (e : look t (r .client) ≡ 0). omega (arith, length-put-new r t g e)) (λ n. omega (arith, length-put-old r t g (omega arith))) (same-or-not (look t (r .client)) 0)
 
 module _ {cs ks : List ℕ} {n : ℕ} (t : Table (held cs ks n)) where
-  pub set-over : (o out : Slices) (c k m : ℕ) → m ≡ most o → m < n → out ≡ filled [] o → Writes (Table (held cs ks n)) (Set (rowsOf n cs ks) c k) o out (made.Refused Full)
+  pub set-over : (o out : Slices) (c k m : ℕ) → m ≡ most o → m < n → out ≡ filled o [] → Writes (Table (held cs ks n)) (Set (rowsOf n cs ks) c k) o out (made.Refused Full)
   set-over o out c k m e h f =
       full (put (row c k) (rowsOf n cs ks)) t (set-right (rowsOf n cs ks) c k (t .rising))
       (omega (arith, length-put-le (row c k) (rowsOf n cs ks) (t .rising), length-rows t)) refl f

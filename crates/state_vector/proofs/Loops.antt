@@ -11,11 +11,11 @@ use lib.Seq.{getD-set-same, getD-set-other}
 use borrow.Author.Tests.{ltb-true, ltb-false, le-ltb, eqb-true, eqb-false, eq-eqb, ne-eqb}
 use Rattle.tables.specs.Inner.Climb.{Climbs}
 use Rattle.tables.specs.Inner.Edit.{Parted}
+use Rattle.varint.proofs.Cases.{same-or-not}
 use Rattle.tables.proofs.Climbing.{climbs-at}
 use Rattle.tables.proofs.Copying.{Raised, raised-none, raised-more}
 use Rattle.tables.proofs.Inserting.{parted-met}
 use Rattle.state_vector.specs.Inner.{Finds, Firsts, element, Opens, Nulls, anyLess, Unders}
-use Rattle.state_vector.proofs.Looking.{same-or-not}
 
 -- ## The place of a client
 

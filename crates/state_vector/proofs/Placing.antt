@@ -3,7 +3,7 @@ use mathlib.Core.Path.{_≡_, refl, ap, subst}
 use mathlib.Core.Logic.{⊎-elim}
 use mathlib.Core.Bool.{Bool, true, false, cond}
 use mathlib.Core.List.{List, [], _∷_}
-use Prim.Native.Nat.{ℕ, zero, suc, _+_, _-_, _%_, _≤_, _<_}
+use Prim.Native.Nat.{ℕ, zero, suc, _+_, _%_, _≤_, _<_}
 use native.Mathlib.Omega.{arith}
 use borrow.Author.Tests.{lt-ltb, le-ltb, eqb-true, eqb-false}
 use lib.Dec.{eqb, leb}
@@ -11,12 +11,12 @@ use lib.ListN.{length, drop, length-drop}
 use Rattle.varint.specs.Number.{Answer, done, andThen, joined, reads, eleventh, readAt}
 use Rattle.varint.specs.Answer.{noOf}
 use Rattle.varint.specs.declared.Refusal.the-variants.{Full}
-use Rattle.varint.proofs.Writing.{lt-or-ge}
 use Rattle.state_vector.specs.Rows.{Row, row}
 use Rattle.state_vector.specs.Vectors.{Slices, most}
 use Rattle.state_vector.specs.Bytes as bytes
 use Rattle.state_vector.specs.Bytes.{stored, Pairs, read, stop, pairsAt, vectorAt, Decoding, saidDecoded, Decodes}
 use Rattle.state_vector.specs.declared.Decoded.the-variants as decoded
+use Rattle.varint.proofs.Cases.{split}
 
 -- a number that was read took a byte or more
 reads-within : (w at n s acc p : ℕ) (bs : List ℕ) {v q : ℕ} → reads eleventh w at n 7 s acc p bs ≡ done v q → (p < q) × (q ≤ p + length bs)
@@ -31,7 +31,7 @@ reads-within w at (suc n) s acc p (b ∷ bs) {v} {q} e =
     (λ (h : 128 ≤ b).
     let r = reads-within w at n (s + 7) (joined w acc s (b % 128)) (p + 1) bs (rw (le-ltb b 128 h) at e) in
     (omega (arith, r .0), omega (arith, r .1)))
-    (lt-or-ge b 128)
+    (split b 128)
 
 read-within : (w : ℕ) (bytes : List ℕ) (p : ℕ) {v q : ℕ} → readAt w bytes p ≡ done v q → (p < q) × (q ≤ length bytes)
 unfolding readAt

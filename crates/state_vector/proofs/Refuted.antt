@@ -1,13 +1,13 @@
 -- Wrong programs that the promises exclude: document 01, "How tight the statements are" and "Errors that tempt". Assumes nothing.
-use mathlib.Core.Path.{_≡_, refl, ap, ap₂, sym, subst, _∙_}
+use mathlib.Core.Path.{_≡_, refl, ap, sym, subst, _∙_}
 use mathlib.Core.Logic.{_⊎_, inl, inr, ⊎-elim}
 use mathlib.Core.Bool.{cond}
-use mathlib.Core.List.{List, [], _∷_, map, append-nil}
-use Prim.Native.Nat.{ℕ, zero, suc, _+_, _-_, _^_, _≤_, _<_, max}
+use mathlib.Core.List.{List, [], _∷_, append-nil}
+use Prim.Native.Nat.{ℕ, zero, suc, _+_, _*_, _^_, _≤_, _<_, max}
 use native.Mathlib.Omega.{arith}
 use borrow.Author.Tests.{eqb-false, ne-eqb, lt-leb}
 use lib.Dec.{eqb}
-use lib.ListN.{length, getD, replicate, length-replicate, length-map}
+use lib.ListN.{length, getD, replicate, length-replicate}
 use Rattle.varint.specs.Number as number
 use Rattle.varint.specs.Number.{andThen, readAt, Written}
 use Rattle.varint.specs.Answer.{noOf}
@@ -16,12 +16,11 @@ use Rattle.varint.specs.declared.Refusal.the-variants.{Full, Malformed}
 use Rattle.varint.specs.declared.Wrote.the-variants as answer
 use Rattle.varint.proofs.Chaining as chaining
 use Rattle.varint.proofs.Chaining.{unput}
-use Rattle.tables.specs.Answers.{Answer, padded, done, full, malformed, says, refuses}
+use Rattle.tables.specs.Answers.{done, says, refuses}
 use Rattle.tables.specs.declared.Made.{Made}
 use Rattle.tables.specs.declared.Made.the-variants as made
-use Rattle.tables.proofs.Below.{refusal-leaves, zeros}
-use Rattle.tables.proofs.Refuted as wrong
-use Rattle.tables.proofs.Refuted.{Tell, Shown, padded-tell, padded-behind}
+use Rattle.tables.proofs.Below.{refusal-leaves}
+use Rattle.tables.proofs.Refuted.{Tell, Shown, Column, column, column-tell, column-behind, column-zeroed, columns-tell}
 use Rattle.state_vector.specs.Rows.{Row, row, In, at, VectorOf, smaller}
 use Rattle.state_vector.specs.Vectors.{Slices, two, Held, held, rows, most, Table, filled, Writes, MinSet, MaxSet, Merged, Compared}
 use Rattle.state_vector.specs.Bytes as bytes
@@ -38,53 +37,25 @@ use Rattle.state_vector.proofs.RoundTrip.{stores, Fitting, vector-read}
 
 -- ## Every routine that writes a vector
 
--- rows by their columns
-columns-tell : (t u : List Row) → length t ≡ length u → map (λ (r : Row). r .client) t ≡ map (λ (r : Row). r .client) u → map (λ (r : Row). r .clock) t ≡ map (λ (r : Row). r .clock) u → t ≡ u
-columns-tell [] [] h a b = refl
-columns-tell [] (r ∷ u) h a b = absurd (omega arith)
-columns-tell (r ∷ t) [] h a b = absurd (omega arith)
-columns-tell (r ∷ t) (s ∷ u) h a b =
-    let x : r .client ≡ s .client = cc in
-    let y : r .clock ≡ s .clock = cc in
-    ap₂ _∷_ (λ i. record { client = x i; clock = y i }) (columns-tell t u (omega arith) (cc) (cc))
+-- the columns of an output
+abbrev clients : (o : Slices) → Column (filled o)
+clients o = column (λ (s : Slices). s .clients) (λ (r : Row). r .client) (length (o .clients)) (λ t. refl)
 
-filled-tell : (o : Slices) → Tell (λ t. filled t o)
-filled-tell o t u h e = columns-tell t u h
-    (column (λ (r : Row). r .client) (length (o .clients)) (ap (λ (s : Slices). s .clients) e))
-    (column (λ (r : Row). r .clock) (length (o .clocks)) (ap (λ (s : Slices). s .clocks) e))
-  where
-    column : (f : Row → ℕ) (n : ℕ) → padded n (map f t) ≡ padded n (map f u) → map f t ≡ map f u
-    column f n = padded-tell n (map f t) (map f u) (length-map t f ∙ h ∙ sym (length-map u f))
+abbrev clocks : (o : Slices) → Column (filled o)
+clocks o = column (λ (s : Slices). s .clocks) (λ (r : Row). r .clock) (length (o .clocks)) (λ t. refl)
 
-module _ {ok : Type 0} {right : List Row → Type 0} (o : Slices) {out : Slices} where
-  -- FULL before MALFORMED
-  pub full-first : (ok → ⊥) → Writes ok right o out (made.Refused Full) → ⊥
-  full-first n = wrong.full-first n refl
+filled-tell : (o : Slices) → Tell (filled o)
+filled-tell o t u h e =
+    columns-tell ((λ (r : Row). r .client) ∷ (λ (r : Row). r .clock) ∷ []) (λ r s f. λ i. record { client = f .0 i; clock = f .1 .0 i })
+    t u h (column-tell (clients o) t u h e, (column-tell (clocks o) t u h e, tt))
 
-  -- what stands behind the rows
-  pub zeroed : (n i : ℕ) → n ≤ i → Writes ok right o out (made.Rows n) → (getD (out .clients) i 0 ≡ 0) × (getD (out .clocks) i 0 ≡ 0)
-  zeroed n i h (done t k r m e f) = (
-    ap (λ (s : Slices). getD (s .clients) i 0) f ∙ behind (λ (r : Row). r .client) (length (o .clients)),
-    ap (λ (s : Slices). getD (s .clocks) i 0) f ∙ behind (λ (r : Row). r .clock) (length (o .clocks)),
-  )
-    where
-      behind : (f : Row → ℕ) (len : ℕ) → getD (padded len (map f t)) i 0 ≡ 0
-      behind f len = padded-behind len (map f t) i (omega (arith, length-map t f, ap (λ (a : Answer ℕ). a .value) e))
-  zeroed n i h (full t k r m e f) = absurd (omega (arith, ap (λ (a : Answer ℕ). a .no) e))
-  zeroed n i h (malformed m e f) = absurd (omega (arith, ap (λ (a : Answer ℕ). a .no) e))
+-- the element i of each slice is zero
+abbrev Zero : ℕ → Slices → Type 0
+Zero i out = (getD (out .clients) i 0 ≡ 0) × (getD (out .clocks) i 0 ≡ 0)
 
-module _ {I : Type 0} {P : I → Slices → Slices → Made → Type 0} {left : I → List Row} (s : Shown most (λ o t. filled t o) P left) where
-  -- one that always says FULL
-  pub always-full : ((i : I) (o : Slices) → P i o (filled [] o) (made.Refused Full)) → ⊥
-  always-full = wrong.always-full filled-tell s
-
-  -- one constant table
-  pub constant : (t : List Row) → ((i : I) (o : Slices) → P i o (filled t o) (made.Rows (length t))) → ⊥
-  constant = wrong.constant filled-tell s
-
-  -- one that hands back its left table
-  pub left-table : ((i : I) (o : Slices) → P i o (filled (left i) o) (made.Rows (length (left i)))) → ⊥
-  left-table = wrong.handed-back filled-tell s
+-- what stands behind the rows
+pub zeroed : {ok : Type 0} {right : List Row → Type 0} (o : Slices) {out : Slices} (n i : ℕ) → n ≤ i → Writes ok right o out (made.Rows n) → Zero i out
+zeroed o n i h g = let k : 1 * n ≤ i = omega arith in (column-zeroed (clients o) n i k g, column-zeroed (clocks o) n i k g)
 
 abbrev empty : Held
 empty = held [] [] 0
@@ -106,9 +77,10 @@ only-one f (r ∷ s ∷ t) v = absurd (omega (arith, v .rising .0, f (r .client)
 module _ {I : Type 0} {P : I → Slices → Slices → Made → Type 0} {left : I → List Row} (ok : I → Type 0) (clients : I → ℕ → Type 0) (clock : I → ℕ → ℕ)
     (is : (i : I) (o out : Slices) (r : Made) → P i o out r → Writes (ok i) (VectorOf (clients i) (clock i)) o out r) where
   shown : (small some none other : I) → ((c : ℕ) → clients small c → c ≡ 1) → clients some 1 → (clients none 1 → ⊥) → clients other 1 → (In (left other) 1 → ⊥)
-      → Shown most (λ o t. filled t o) P left
+      → Shown most filled P left
   shown small some none other f a b c d =
       record {
+        tell = filled-tell;
         ok = ok;
         right = λ i. VectorOf (clients i) (clock i);
         is = λ i o p. is i o _ _ p;
@@ -125,15 +97,15 @@ module _ {I : Type 0} {P : I → Slices → Slices → Made → Type 0} {left : 
 abbrev Setting : Type 0
 Setting = Held × ℕ × ℕ
 
-pub setting-min : Shown most (λ o t. filled t o) (λ (i : Setting). MinSet (i .0) (i .1) (i .2)) (λ i. rows (i .0))
+pub setting-min : Shown most filled (λ (i : Setting). MinSet (i .0) (i .1) (i .2)) (λ i. rows (i .0))
 setting-min = shown (λ i. Table (i .0)) (λ i d. In (rows (i .0)) d ⊎ (d ≡ i .1)) (λ i d. cond (eqb d (i .1)) (smaller (rows (i .0)) (i .1) (i .2)) (at (rows (i .0)) d)) (λ i o out r p. p)
     (empty, 1, 0) (empty, 1, 0) (empty, 2, 0) (empty, 1, 0) (λ d. ⊎-elim (λ h. absurd h) (λ e. e)) (inr refl) (⊎-elim (λ h. h) (λ e. omega arith)) (inr refl) (λ h. h)
 
-pub setting-max : Shown most (λ o t. filled t o) (λ (i : Setting). MaxSet (i .0) (i .1) (i .2)) (λ i. rows (i .0))
+pub setting-max : Shown most filled (λ (i : Setting). MaxSet (i .0) (i .1) (i .2)) (λ i. rows (i .0))
 setting-max = shown (λ i. Table (i .0)) (λ i d. In (rows (i .0)) d ⊎ (d ≡ i .1)) (λ i d. cond (eqb d (i .1)) (max (at (rows (i .0)) (i .1)) (i .2)) (at (rows (i .0)) d)) (λ i o out r p. p)
     (empty, 1, 0) (empty, 1, 0) (empty, 2, 0) (empty, 1, 0) (λ d. ⊎-elim (λ h. absurd h) (λ e. e)) (inr refl) (⊎-elim (λ h. h) (λ e. omega arith)) (inr refl) (λ h. h)
 
-pub merging : Shown most (λ o t. filled t o) (λ (i : Held × Held). Merged (i .0) (i .1)) (λ i. rows (i .0))
+pub merging : Shown most filled (λ (i : Held × Held). Merged (i .0) (i .1)) (λ i. rows (i .0))
 merging = shown (λ i. Table (i .0) × Table (i .1)) (λ i c. In (rows (i .0)) c ⊎ In (rows (i .1)) c) (λ i c. max (at (rows (i .0)) c) (at (rows (i .1)) c)) (λ i o out r p. p)
     (empty, empty) (empty, one 1 1) (empty, empty) (empty, one 1 1) (λ d. ⊎-elim (λ h. absurd h) (λ h. absurd h)) (inr (inl refl)) (⊎-elim (λ h. h) (λ h. h)) (inr (inl refl)) (λ h. h)
 
@@ -172,21 +144,21 @@ absent-zero c k h =
 -- ## What a refusal leaves
 
 -- for decoding: the place too
-pub refusal-decoded : {bs : List ℕ} {place : ℕ} {o out : Slices} {d : Decoding} → Decodes bs place o out d → (d .no ≡ 0 → ⊥) → (d .count ≡ 0) × (d .place ≡ place) × (out ≡ filled [] o)
+pub refusal-decoded : {bs : List ℕ} {place : ℕ} {o out : Slices} {d : Decoding} → Decodes bs place o out d → (d .no ≡ 0 → ⊥) → (d .count ≡ 0) × (d .place ≡ place) × (out ≡ filled o [])
 refusal-decoded (bytes.done got t p e v f g) n = absurd (n (ap (λ (x : Decoding). x .no) f))
 refusal-decoded (bytes.refused m e f g) n = (ap (λ (x : Decoding). x .count) f, ap (λ (x : Decoding). x .place) f, g)
 
 -- every element of either slice, of whatever lengths
-all-zero : (o : Slices) {out : Slices} → out ≡ filled [] o → (j : ℕ) → (getD (out .clients) j 0 ≡ 0) × (getD (out .clocks) j 0 ≡ 0)
-all-zero o e j = (ap (λ (x : Slices). getD (x .clients) j 0) e ∙ zeros (length (o .clients) - 0) j, ap (λ (x : Slices). getD (x .clocks) j 0) e ∙ zeros (length (o .clocks) - 0) j)
+all-zero : (o : Slices) {out : Slices} → out ≡ filled o [] → (j : ℕ) → Zero j out
+all-zero o e j = (column-behind (clients o) [] j (omega arith) e, column-behind (clocks o) [] j (omega arith) e)
 
 refusing : (e : Refusal) → noOf e ≡ 0 → ⊥
 refusing e = eqb-false (noOf e) 0 (chaining.refuses e)
 
-pub refused-zero : {ok : Type 0} {right : List Row → Type 0} (o out : Slices) (e : Refusal) → Writes ok right o out (made.Refused e) → (j : ℕ) → (getD (out .clients) j 0 ≡ 0) × (getD (out .clocks) j 0 ≡ 0)
+pub refused-zero : {ok : Type 0} {right : List Row → Type 0} (o out : Slices) (e : Refusal) → Writes ok right o out (made.Refused e) → (j : ℕ) → Zero j out
 refused-zero o out e h = all-zero o (refusal-leaves (refusing e) h .1)
 
-pub decode-refused-zero : (bs : List ℕ) (place : ℕ) (o out : Slices) (e : Refusal) → Decodes bs place o out (saidDecoded place (decoded.Refused e)) → (j : ℕ) → (getD (out .clients) j 0 ≡ 0) × (getD (out .clocks) j 0 ≡ 0)
+pub decode-refused-zero : (bs : List ℕ) (place : ℕ) (o out : Slices) (e : Refusal) → Decodes bs place o out (saidDecoded place (decoded.Refused e)) → (j : ℕ) → Zero j out
 decode-refused-zero bs place o out e h = all-zero o (refusal-decoded h (refusing e) .2)
 
 -- ## Encoding

@@ -82,7 +82,7 @@ stores-last (s ∷ ts) got r us n = stores-last ts (stored got s) r us n
 
 -- OF PAIRS IN ANY ORDER, THE LAST OF A CLIENT DECIDES: where no pair of its client stands behind r, the clock read is that of r
 pub decode-last : (ts : List Row) (r : Row) (us : List Row) (o out : Slices) (d : Decoding) → (In us (r .client) → ⊥) → Words (ts ++ (r ∷ us)) → Fitting (most o) [] (ts ++ (r ∷ us))
-    → length (ts ++ (r ∷ us)) < 2 ^ 32 → Decodes (encoded (ts ++ (r ∷ us))) 0 o out d → (t : List Row) × (out ≡ filled t o) × (In t (r .client)) × (at t (r .client) ≡ r .clock)
+    → length (ts ++ (r ∷ us)) < 2 ^ 32 → Decodes (encoded (ts ++ (r ∷ us))) 0 o out d → (t : List Row) × (out ≡ filled o t) × (In t (r .client)) × (at t (r .client) ≡ r .clock)
 decode-last ts r us o out d n w l h x = go x
   where
     all : List Row
@@ -97,7 +97,7 @@ decode-last ts r us o out d n w l h x = go x
     own : In (stores [] all) (r .client)
     own = look-in (stores [] all) (r .client) (omega (arith, last))
 
-    go : Decodes (encoded all) 0 o out d → (t : List Row) × (out ≡ filled t o) × (In t (r .client)) × (at t (r .client) ≡ r .clock)
+    go : Decodes (encoded all) 0 o out d → (t : List Row) × (out ≡ filled o t) × (In t (r .client)) × (at t (r .client) ≡ r .clock)
     go (done g t q f v i j) =
         let y : g ≡ stores [] all = cc got in
         let u = subst (λ (z : List Row). VectorOf (In z) (at z) t) y v in
@@ -137,7 +137,7 @@ own-vector t g = same-vector (record { rising = g; looks = λ c. refl; many = re
 
 -- DECODING WHAT WAS ENCODED, WITH ROOM FOR IT, GIVES THE SAME ROWS, AND THE PLACE PAST THEM
 pub round-trip : (a : Held) (buf after : List ℕ) (place p : ℕ) (o out : Slices) (d : Decoding) → Typed (a .slices) → length (rows a) ≤ most o
-    → Encodes a buf place (record { no = 0; place = p; buffer = after }) → Decodes after place o out d → (d ≡ decoding 0 (length (rows a)) p) × (out ≡ filled (rows a) o)
+    → Encodes a buf place (record { no = 0; place = p; buffer = after }) → Decodes after place o out d → (d ≡ decoding 0 (length (rows a)) p) × (out ≡ filled o (rows a))
 round-trip a buf after place p o out d w l (malformed n e) x = absurd (let z = ap (λ (v : Written). v .no) e in omega arith)
 round-trip a buf after place p o out d w l (writes t e) x = go x
   where
@@ -146,12 +146,12 @@ round-trip a buf after place p o out d w l (writes t e) x = go x
         let g : Put (encoded (rows a)) buf place after p = put e in
         vector-back (most o) after _ (rows a) place (words w (a .count)) (t .rising) l (omega arith) (put-read g) ∙ ap (read (rows a)) (sym (g .place))
 
-    go : Decodes after place o out d → (d ≡ decoding 0 (length (rows a)) p) × (out ≡ filled (rows a) o)
+    go : Decodes after place o out d → (d ≡ decoding 0 (length (rows a)) p) × (out ≡ filled o (rows a))
     go (done got u q f v i j) =
         let y : got ≡ rows a = cc back in
         let z : q ≡ p = cc back in
         let same : u ≡ rows a = vector-one u (rows a) (subst (λ (x : List Row). VectorOf (In x) (at x) u) y v) (own-vector (rows a) (t .rising)) in
-        (i ∙ ap₂ (λ (x : List Row) (n : ℕ). decoding 0 (length x) n) same z, j ∙ ap (λ (x : List Row). filled x o) same)
+        (i ∙ ap₂ (λ (x : List Row) (n : ℕ). decoding 0 (length x) n) same z, j ∙ ap (filled o) same)
     go (refused n f i j) = absurd (let z : _≡_ {A = ℕ} 0 1 = cc back in omega arith)
 
 -- the same of whatever the two routines answer, by their contracts
@@ -176,7 +176,7 @@ pub comes-back : {a : Held} {buf after : List ℕ} {place : ℕ} (r : Wrote) {o 
 comes-back {a} {buf} {after} {place} r {o} {out} d w e x = record { answer = λ t f l. decoded-same place d _ (both t f l .0 ∙ ap (λ (n : ℕ). decoding 0 n (place + length (encoded (rows a)))) (length-rows t)); memory = λ t f l. both t f l .1 }
   where
     both : Table a → place + length (encoded (rows a)) ≤ length buf → a .count ≤ most o
-        → (saidDecoded place d ≡ decoding 0 (length (rows a)) (place + length (encoded (rows a)))) × (out ≡ filled (rows a) o)
+        → (saidDecoded place d ≡ decoding 0 (length (rows a)) (place + length (encoded (rows a)))) × (out ≡ filled o (rows a))
     both t f l = round-trip a buf after place (place + length (encoded (rows a))) o out (saidDecoded place d) w (omega (arith, length-rows t)) (there r after e t f) x
 
 -- THE ENCODER GOES AT MOST 3,842 BYTES FURTHER, AND IS NEVER REFUSED WHERE SO MANY REMAIN

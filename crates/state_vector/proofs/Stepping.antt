@@ -1,6 +1,6 @@
 -- Two vectors passed side by side, a client a step: what is left of each, the rows merged so far, and the order so far. Assumes nothing.
 use mathlib.Core.Path.{_≡_, refl, ap, ap₂, sym, subst, subst₂, _∙_}
-use mathlib.Core.Logic.{_⊎_, ⊎-elim}
+use mathlib.Core.Logic.{⊎-elim}
 use mathlib.Core.Bool.{Bool, true, false, cond, _||_, true≢false}
 use mathlib.Core.List.{List, [], _∷_, _++_, append-assoc}
 use Prim.Native.Nat.{ℕ, zero, suc, _+_, _-_, _≤_, _<_, min, max}
@@ -13,7 +13,8 @@ use Rattle.state_vector.specs.Rows.{Row, row, at, First, Rising, Below}
 use Rattle.state_vector.specs.Vectors.{Slices, held, rowsOf, room, Table}
 use Rattle.tables.specs.Inner.Rows.{span}
 use Rattle.state_vector.specs.Inner.{rowAt, Holds, Firsts, element, Stores, Passes, Rests, Fronts, Unites, Nulls, anyLess, Unders, judged, Judges}
-use Rattle.state_vector.proofs.Looking.{look, look-here, look-past, same-or-not, at-look, first-same, over, look-append, between, merge-right}
+use Rattle.varint.proofs.Cases.{same-or-not}
+use Rattle.state_vector.proofs.Looking.{look, look-here, look-past, at-look, first-same, over, look-append, between, merge-right}
 use Rattle.tables.proofs.Spanning.{span-none}
 use Rattle.state_vector.proofs.Spanning.{span-next, table-span, table-rising}
 use Rattle.state_vector.proofs.Storing.{two-of, holds-none, holds-store}

@@ -89,29 +89,29 @@ resting-all {most} {a} {from} {n} {o₀} {have} {o} {i} {k} h c = record {
 
 -- ## Zeros behind
 
-pub cleared : (cs ks xs ys : List ℕ) → xs ≡ replicate (length cs) 0 → ys ≡ replicate (length ks) 0 → two xs ys ≡ filled [] (two cs ks)
+pub cleared : (cs ks xs ys : List ℕ) → xs ≡ replicate (length cs) 0 → ys ≡ replicate (length ks) 0 → two xs ys ≡ filled (two cs ks) []
 cleared cs ks xs ys p q = two-of (p ∙ all cs) (q ∙ all ks)
   where
     all : (l : List ℕ) → replicate {A = ℕ} (length l) 0 ≡ replicate (length l - 0) 0
     all l = ap (λ (n : ℕ). replicate {A = ℕ} n 0) (let e : length l ≡ length l - 0 = omega arith in e)
 
 pub closed : (cs ks : List ℕ) (k : ℕ) (xs ys : List ℕ) → k ≤ room (two cs ks) → xs ≡ take k cs ++ replicate (length cs - k) 0 → ys ≡ take k ks ++ replicate (length ks - k) 0
-    → two xs ys ≡ filled (span (rowAt (two cs ks)) 0 k) (two cs ks)
+    → two xs ys ≡ filled (two cs ks) (span (rowAt (two cs ks)) 0 k)
 closed cs ks k xs ys h p q =
     two-of (p ∙ padded-column (rowAt (two cs ks)) (λ (r : Row). r .client) cs k (length cs) (λ j. refl) (omega arith))
     (q ∙ padded-column (rowAt (two cs ks)) (λ (r : Row). r .clock) ks k (length ks) (λ j. refl) (omega arith))
 
-pub filled-same : (t : List Row) (o o₀ : Slices) → length (o .clients) ≡ length (o₀ .clients) → length (o .clocks) ≡ length (o₀ .clocks) → filled t o ≡ filled t o₀
+pub filled-same : (t : List Row) (o o₀ : Slices) → length (o .clients) ≡ length (o₀ .clients) → length (o .clocks) ≡ length (o₀ .clocks) → filled o t ≡ filled o₀ t
 filled-same t o o₀ p q = two-of (ap (λ (n : ℕ). padded n (map (λ (r : Row). r .client) t)) p) (ap (λ (n : ℕ). padded n (map (λ (r : Row). r .clock) t)) q)
 
 -- ## The answers
 
 module _ {ok : Type 0} {right : List Row → Type 0} (o₀ : Slices) {out : Slices} where
-  pub refused : (ok → ⊥) → out ≡ filled [] o₀ → Writes ok right o₀ out (made.Refused Malformed)
+  pub refused : (ok → ⊥) → out ≡ filled o₀ [] → Writes ok right o₀ out (made.Refused Malformed)
   refused n e = malformed n refl e
 
   pub gives-closed : {o : Slices} {m k : ℕ} {r : Made} {t : List Row} → m ≡ most o₀ → ok → right t
       → length (o .clients) ≡ length (o₀ .clients) → length (o .clocks) ≡ length (o₀ .clocks) → Holds m o k t → Closes m k o out r → Writes ok right o₀ out r
   gives-closed {o = o} {k = k} {t = t} em a b p q h (fits l e f) =
-      done t a b (omega (arith, h .many)) (ap saidMade e ∙ ap (λ (n : ℕ). saidMade (made.Rows n)) (sym (h .many))) (f ∙ ap (λ (x : List Row). filled x o) (h .stand l) ∙ filled-same t o o₀ p q)
+      done t a b (omega (arith, h .many)) (ap saidMade e ∙ ap (λ (n : ℕ). saidMade (made.Rows n)) (sym (h .many))) (f ∙ ap (filled o) (h .stand l) ∙ filled-same t o o₀ p q)
   gives-closed {o = o} {t = t} em a b p q h (over l e f) = full t a b (omega (arith, h .many)) (ap saidMade e) (f ∙ filled-same [] o o₀ p q)

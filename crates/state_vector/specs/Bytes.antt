@@ -71,9 +71,9 @@ saidDecoded place (decoded.Refused e) = decoding (noOf e) 0 place
 
 -- the vector of the rows that were read, or "table output zeroed"
 pub data Decodes (bytes : List ℕ) (place : ℕ) (o out : Slices) (d : Decoding) : Type 0 where
-  done : (got t : List Row) (p : ℕ) → vectorAt (most o) bytes place ≡ read got p → VectorOf (In got) (at got) t → d ≡ decoding 0 (length t) p → out ≡ filled t o
+  done : (got t : List Row) (p : ℕ) → vectorAt (most o) bytes place ≡ read got p → VectorOf (In got) (at got) t → d ≡ decoding 0 (length t) p → out ≡ filled o t
       → Decodes bytes place o out d
-  refused : (n : ℕ) → vectorAt (most o) bytes place ≡ stop n → d ≡ decoding n 0 place → out ≡ filled [] o → Decodes bytes place o out d
+  refused : (n : ℕ) → vectorAt (most o) bytes place ≡ stop n → d ≡ decoding n 0 place → out ≡ filled o [] → Decodes bytes place o out d
 
 -- clients are u64 and clocks u32: what Rattle knows of every slice of these that is lent
 pub record Typed (o : Slices) : Type 0 where
@@ -83,4 +83,4 @@ pub record Typed (o : Slices) : Type 0 where
 -- "Decoding what was encoded, with room for it, gives the same rows", and the place past them
 pub record ComesBack (a : Held) (buf : List ℕ) (place : ℕ) (o out : Slices) (r : Decoded) : Type 0 where
   pub answer : Table a → place + length (encoded (rows a)) ≤ length buf → a .count ≤ most o → r ≡ decoded.Done (a .count) (place + length (encoded (rows a)))
-  pub memory : Table a → place + length (encoded (rows a)) ≤ length buf → a .count ≤ most o → out ≡ filled (rows a) o
+  pub memory : Table a → place + length (encoded (rows a)) ≤ length buf → a .count ≤ most o → out ≡ filled o (rows a)

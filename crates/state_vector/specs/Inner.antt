@@ -59,8 +59,8 @@ pub record Opens (i n : ℕ) (s out : List ℕ) : Type 0 where
 
 -- the answer of a routine that has its rows: k rows and zeros behind them, or FULL
 pub data Closes (most k : ℕ) (o out : Slices) (r : Made) : Type 0 where
-  fits : k ≤ most → r ≡ made.Rows k → out ≡ filled (span (rowAt o) 0 k) o → Closes most k o out r
-  over : most < k → r ≡ made.Refused Full → out ≡ filled [] o → Closes most k o out r
+  fits : k ≤ most → r ≡ made.Rows k → out ≡ filled o (span (rowAt o) 0 k) → Closes most k o out r
+  over : most < k → r ≡ made.Refused Full → out ≡ filled o [] → Closes most k o out r
 
 -- one row more, while there is room
 pub record Stores (most k : ℕ) (r : Row) (o out : Slices) : Type 0 where

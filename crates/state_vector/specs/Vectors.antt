@@ -53,15 +53,15 @@ pub record Table (h : Held) : Type 0 where
   pub rising : Rising (rows h)
 
 -- "the new table fills the front of the output and every later element of each output slice is zero"
-abbrev pub filled : List Row → Slices → Slices
-filled t o = record {
+abbrev pub filled : Slices → List Row → Slices
+filled o t = record {
   clients = padded (length (o .clients)) (map (λ (r : Row). r .client) t);
   clocks = padded (length (o .clocks)) (map (λ (r : Row). r .clock) t);
 }
 
 -- "An operation reads its tables and writes another one."
 abbrev pub Writes : Type 0 → (List Row → Type 0) → Slices → Slices → Made → Type 0
-Writes ok right o out r = Gives ok right (most o) (λ t. filled t o) out (saidMade r)
+Writes ok right o out r = Gives ok right (most o) (filled o) out (saidMade r)
 
 -- "number 0"
 abbrev pub saidGot : Got → Answer ℕ

@@ -11,13 +11,13 @@ ghost use mathlib.Core.Bool.{cond};
 ghost use mathlib.Core.List.{[]};
 ghost use Prim.Native.Nat.{_+_, _≤_, _<_, min, max};
 ghost use lib.Dec.{eqb};
-ghost use lib.ListN.{length, take};
+ghost use lib.ListN.{length};
 ghost use Rattle.tables.specs.Answers.{Says};
 ghost use Rattle.tables.specs.Limits.{vectorLimit};
 ghost use Rattle.tables.specs.Inner.Climb.{Climbs};
 ghost use Rattle.tables.specs.Inner.Rows.{span};
 ghost use Rattle.state_vector.specs.Rows.{row, at, smaller, Set};
-ghost use Rattle.state_vector.specs.Vectors.{two, held, rows, rowsOf, room, Table, filled, Writes, Get, MinSet, MaxSet, Merged, Compared};
+ghost use Rattle.state_vector.specs.Vectors.{two, held, rowsOf, room, Table, filled, Writes, Get, MinSet, MaxSet, Merged, Compared};
 ghost use Rattle.state_vector.specs.Inner.{Finds, Stands, put, Holds, Opens, Closes, Firsts, element, Stores, Passes, Rests, Fronts, Unites, Nulls, anyLess, Unders, judged, Judges, rowAt, Puts, Reads};
 ghost use Rattle.state_vector.specs.Bytes.{rowBytes, encoded, Encoded, pairsAt, saidDecoded, Decodes};
 ghost use Rattle.varint.specs.Number.{bytesOf};
@@ -285,7 +285,7 @@ fn most_rows(a: usize, b: usize) -> usize
 
 // Every element becomes zero.
 fn clear(to_clients: &mut [u64], to_clocks: &mut [u32])
-    ensures { λ r. ⌜ two (now («to_clients» .exit)) (now («to_clocks» .exit)) ≡ filled [] (two (now («to_clients» .entry)) (now («to_clocks» .entry))) ⌝ }
+    ensures { λ r. ⌜ two (now («to_clients» .exit)) (now («to_clocks» .exit)) ≡ filled (two (now («to_clients» .entry)) (now («to_clocks» .entry))) [] ⌝ }
 {
     tables::zero_wide(to_clients);
     tables::zero(to_clocks);
@@ -308,7 +308,7 @@ fn close(to_clients: &mut [u64], to_clocks: &mut [u32], most: usize, k: usize) -
 fn zero_rest(to_clients: &mut [u64], to_clocks: &mut [u32], k: usize)
     requires { ⌜ k ≤ room (two (now «to_clients») (now «to_clocks»)) ⌝ }
     ensures { λ r. ⌜ two (now («to_clients» .exit)) (now («to_clocks» .exit))
-        ≡ filled (span (rowAt (two (now («to_clients» .entry)) (now («to_clocks» .entry)))) 0 k) (two (now («to_clients» .entry)) (now («to_clocks» .entry))) ⌝ }
+        ≡ filled (two (now («to_clients» .entry)) (now («to_clocks» .entry))) (span (rowAt (two (now («to_clients» .entry)) (now («to_clocks» .entry)))) 0 k) ⌝ }
 {
     tables::zero_wide(&mut to_clients[k..]);
     tables::zero(&mut to_clocks[k..]);

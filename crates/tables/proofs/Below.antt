@@ -14,10 +14,17 @@ pub record Alike {A : Type 0} (ok ok′ : Type 0) (x x′ : A) : Type 0 where
 pub alike-back : {A : Type 0} {ok ok′ : Type 0} {x x′ : A} → Alike ok ok′ x x′ → Alike ok′ ok x′ x
 alike-back a = record { rules = (a .rules .1, a .rules .0); same = sym (a .same) }
 
--- with a rule of the rows beside
-pub alike-rule : {A : Type 0} {ok ok′ : Type 0} {x x′ : A} (rule : A → Type 0) → Alike ok ok′ x x′ → Alike (ok × rule x) (ok′ × rule x′) x x′
-alike-rule rule a =
-    record { rules = (λ t. (a .rules .0 (t .0), subst rule (a .same) (t .1)), λ t. (a .rules .1 (t .0), subst rule (sym (a .same)) (t .1))); same = a .same }
+-- of tables that keep their rules where a count fits and the rows keep a rule
+pub alike-rule : {A : Type 0} {few few′ ok ok′ : Type 0} {x x′ : A} (rule : A → Type 0) → ((few × rule x) ↔ ok) → ((few′ × rule x′) ↔ ok′)
+    → Alike few few′ x x′ → Alike ok ok′ x x′
+alike-rule rule f g a =
+    record {
+      rules = (
+        λ t. g .0 (a .rules .0 (f .1 t .0), subst rule (a .same) (f .1 t .1)),
+        λ t. f .0 (a .rules .1 (g .1 t .0), subst rule (sym (a .same)) (g .1 t .1)),
+      );
+      same = a .same;
+    }
 
 -- of two tables
 pub alike-both : {A B : Type 0} {ok ok′ also also′ : Type 0} {x x′ : A} {y y′ : B} → Alike ok ok′ x x′ → Alike also also′ y y′

@@ -7,7 +7,8 @@ use native.Mathlib.Omega.{arith}
 use Rattle.tables.specs.Inner.Rows.{Row, Rows, at, JoinedFrom, span}
 use mathlib.Core.Bool.{Bool, true, false, cond, _&&_}
 use lib.Dec.{leb, ltb}
-use Rattle.tables.proofs.Joining.{split, at-here, at-past, at-below}
+use Rattle.varint.proofs.Cases.{split}
+use Rattle.tables.proofs.Joining.{at-here, at-past, at-below}
 
 -- every row is a unit row
 unfoldable pub Units : Rows → Type 0

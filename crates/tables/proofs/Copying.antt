@@ -6,7 +6,7 @@ use Prim.Native.Nat.{ℕ, suc, _+_, _≤_, _<_}
 use native.Mathlib.Omega.{arith}
 use lib.ListN.{length, getD, set, length-set}
 use lib.Seq.{getD-set-same, getD-set-other}
-use Rattle.tables.proofs.Joining.{split}
+use Rattle.varint.proofs.Cases.{split}
 
 -- i elements from `from` on stand from `to` on
 pub record Copied (src : List ℕ) (from : ℕ) (out₀ : List ℕ) (to i : ℕ) (out : List ℕ) : Type 0 where

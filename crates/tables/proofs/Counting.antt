@@ -4,20 +4,13 @@ use mathlib.Core.Path.{_≡_, refl, ap, ap₂, sym, _∙_}
 use mathlib.Core.List.{[], _∷_}
 use Prim.Native.Nat.{ℕ, zero, suc, _+_, _-_, _≤_, max, min}
 use native.Mathlib.Omega.{arith}
-use native.Mathlib.Decide.{ℕ-discrete}
 use mathlib.Core.Bool.{cond}
 use lib.Dec.{eqb}
 use borrow.Author.Tests.{eq-eqb, ne-eqb}
 use lib.ListN.{length}
 use Rattle.tables.specs.Inner.Rows.{Rows, at, JoinedFrom, Joined, push, put, tabulate, top, combined, union, difference}
-use Rattle.tables.proofs.Joining.{split, at-here, at-past, at-top, pushed, Pushed, grown, added, built, built-unique}
-
-same? : (a b : ℕ) → (a ≡ b) ⊎ (a ≡ b → ⊥)
-same? a b = go (ℕ-discrete a b)
-  where
-    go : Dec (a ≡ b) → (a ≡ b) ⊎ (a ≡ b → ⊥)
-    go (yes p) = inl p
-    go (no p) = inr p
+use Rattle.varint.proofs.Cases.{split, same-or-not}
+use Rattle.tables.proofs.Joining.{at-here, at-past, at-top, pushed, Pushed, grown, added, built, built-unique}
 
 -- a piece at x + 1 that goes on with the weight at x makes no row
 push-goes : (lo v : ℕ) (rs : Rows) (x e w : ℕ) → JoinedFrom lo v rs → top rs ≤ suc x → 1 ≤ w → at rs x ≡ w → length (push rs (suc x) e w) ≡ length rs
@@ -68,13 +61,13 @@ unfolding put begin tabulate push
 length-put m zero zero e = omega arith
 length-put m zero (suc w) e = omega arith
 length-put m (suc x) zero e =
-    ⊎-elim (λ k. omega (arith, begin-same m x k)) (λ k. omega (arith, begin-other m x k)) (same? (m x) (m (suc x)))
+    ⊎-elim (λ k. omega (arith, begin-same m x k)) (λ k. omega (arith, begin-other m x k)) (same-or-not (m x) (m (suc x)))
 length-put m (suc x) (suc w) e =
     let b = built m (suc x) in
     ⊎-elim
     (λ k. omega (arith, begin-same m x k, push-goes 0 0 (tabulate m (suc x)) x (suc (suc x)) (suc w) (b .joined) (b .tops) (omega arith) (b .below x (omega arith) ∙ (k ∙ e))))
     (λ k. omega (arith, begin-other m x k, push-starts 0 0 (tabulate m (suc x)) x (suc (suc x)) (suc w) (b .joined) (b .tops) (λ q. k (sym (b .below x (omega arith)) ∙ (q ∙ sym e)))))
-    (same? (m x) (m (suc x)))
+    (same-or-not (m x) (m (suc x)))
 
 -- A TABLE HAS A ROW FOR EACH NUMBER AT WHICH A WEIGHT BEGINS
 length-tabulate : (m : ℕ → ℕ) (n : ℕ) → length (tabulate m n) ≡ count m n
@@ -101,7 +94,7 @@ unfolding begin union
 begin-union a b u v zero = omega arith
 begin-union a b u v (suc x) =
     ⊎-elim (λ k. omega (arith, begin-same (λ y. union (a y) (b y)) x k))
-    (λ k. go k (same? (a x) (a (suc x))) (same? (b x) (b (suc x)))) (same? (union (a x) (b x)) (union (a (suc x)) (b (suc x))))
+    (λ k. go k (same-or-not (a x) (a (suc x))) (same-or-not (b x) (b (suc x)))) (same-or-not (union (a x) (b x)) (union (a (suc x)) (b (suc x))))
   where
     go : (union (a x) (b x) ≡ union (a (suc x)) (b (suc x)) → ⊥) → (a x ≡ a (suc x)) ⊎ (a x ≡ a (suc x) → ⊥) → (b x ≡ b (suc x)) ⊎ (b x ≡ b (suc x) → ⊥)
         → begin (λ y. union (a y) (b y)) (suc x) ≤ begin a (suc x) + begin b (suc x)
@@ -138,7 +131,7 @@ stops-begun : (m : ℕ → ℕ) → ((x : ℕ) → m x ≤ 1) → (n : ℕ) → 
 unfolding stops stop count begin
 stops-begun m u zero = omega (arith, u 0)
 stops-begun m u (suc n) =
-    ⊎-elim (λ k. omega (arith, stops-begun m u n, begin-same m n k)) (λ k. omega (arith, stops-begun m u n, begin-other m n k, u n, u (suc n), k)) (same? (m n) (m (suc n)))
+    ⊎-elim (λ k. omega (arith, stops-begun m u n, begin-same m n k)) (λ k. omega (arith, stops-begun m u n, begin-other m n k, u n, u (suc n), k)) (same-or-not (m n) (m (suc n)))
 
 stops-few : (m : ℕ → ℕ) → ((x : ℕ) → m x ≤ 1) → (n : ℕ) → stops m n ≤ count m n
 unfolding stops
@@ -154,8 +147,8 @@ begin-difference : (a b : ℕ → ℕ) → ((x : ℕ) → a x ≤ 1) → ((x : �
 unfolding begin stop
 begin-difference a b u v zero = omega (arith, difference-is (a 0) (b 0) (u 0) (v 0))
 begin-difference a b u v (suc x) =
-    ⊎-elim (λ k. omega (arith, begin-same (λ y. difference (a y) (b y)) x k)) (λ k. go k (same? (a x) (a (suc x))))
-    (same? (difference (a x) (b x)) (difference (a (suc x)) (b (suc x))))
+    ⊎-elim (λ k. omega (arith, begin-same (λ y. difference (a y) (b y)) x k)) (λ k. go k (same-or-not (a x) (a (suc x))))
+    (same-or-not (difference (a x) (b x)) (difference (a (suc x)) (b (suc x))))
   where
     d : ℕ → ℕ
     d y = difference (a y) (b y)

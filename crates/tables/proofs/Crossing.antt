@@ -1,5 +1,5 @@
 -- The intersection a row a step. Assumes nothing.
-use mathlib.Core.Logic.{_⊎_, ⊎-elim}
+use mathlib.Core.Logic.{⊎-elim}
 use mathlib.Core.Path.{_≡_, refl, ap, ap₂, sym, subst, _∙_}
 use mathlib.Core.List.{[]}
 use Prim.Native.Nat.{ℕ, zero, suc, _+_, _-_, _≤_, _<_, max, min}
@@ -8,7 +8,8 @@ use Rattle.tables.specs.Inner.Rows.{Row, Rows, at, top, push, combined, 
 use Rattle.tables.specs.Inner.Sweep.{Reached, Place, Touches, Pushes, Holds}
 use Rattle.tables.specs.Inner.Unite.{Passed}
 use Rattle.tables.specs.Inner.Cross.{Keeps}
-use Rattle.tables.proofs.Joining.{split, at-below, at-top, Built, built, built-none, built-unique}
+use Rattle.varint.proofs.Cases.{split}
+use Rattle.tables.proofs.Joining.{at-below, at-top, Built, built, built-none, built-unique}
 use Rattle.tables.proofs.Spanning.{Links, spanned, span-same}
 use Rattle.tables.proofs.Pushing.{pushes-add, pushes-over, holds-push}
 use Rattle.tables.proofs.Sweeping.{place-first, place-last, pass-row, pass-none}

@@ -9,7 +9,8 @@ use Rattle.tables.specs.Inner.Sweep.{Place, Touches, Pushes, Holds}
 use Rattle.tables.specs.Inner.Unite.{Passed}
 use Rattle.tables.specs.Inner.Cross.{Keeps}
 use Rattle.tables.specs.Inner.Differ.{GapStart, GapEnd}
-use Rattle.tables.proofs.Joining.{split, at-below, at-top, Built, built, built-none, built-unique}
+use Rattle.varint.proofs.Cases.{split}
+use Rattle.tables.proofs.Joining.{at-below, at-top, Built, built, built-none, built-unique}
 use Rattle.tables.proofs.Spanning.{Links, spanned, span-same, span-none}
 use Rattle.tables.proofs.Pushing.{pushes-add, pushes-over, holds-push}
 use Rattle.tables.proofs.Sweeping.{place-first, place-last}

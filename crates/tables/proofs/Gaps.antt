@@ -10,7 +10,7 @@ use Rattle.tables.specs.Inner.Rows.{Row, at, combined, difference, inter
 use Rattle.tables.specs.Inner.Edit.{Plain}
 use Rattle.tables.specs.Inner.Differ.{GapStart, GapEnd}
 use Rattle.tables.specs.Inner.Ends.{GapsFrom, GapsTo}
-use Rattle.tables.proofs.Joining.{split}
+use Rattle.varint.proofs.Cases.{split}
 use Rattle.tables.proofs.Meaning.{combined-joined, combined-at, combined-only}
 use Rattle.tables.proofs.Uniting.{in-row}
 use Rattle.tables.proofs.Inserting.{plain-links, apart-to, unit-difference, difference-keeps}

@@ -10,8 +10,9 @@ use lib.Dec.{leb, ltb}
 use borrow.Author.Tests.{lt-ltb, le-ltb}
 use Rattle.tables.specs.Inner.Rows.{Row, Rows, at, JoinedFrom, Joined, combined, union, difference, span}
 use Rattle.tables.specs.Inner.Edit.{Plain, range, Advanced, Parted, starts, ends, Starting, Ending}
+use Rattle.varint.proofs.Cases.{split}
 use Rattle.tables.proofs.Climbing.{Rising, rising}
-use Rattle.tables.proofs.Joining.{split, at-here, at-past, at-before, piece}
+use Rattle.tables.proofs.Joining.{at-here, at-past, at-before, piece}
 use Rattle.tables.proofs.Meaning.{combined-joined, combined-at, combined-only}
 use Rattle.tables.proofs.Spanning.{Links, unit-links, spanned, span-append}
 use Rattle.tables.proofs.Closing.{span-unit}

@@ -5,19 +5,12 @@ use mathlib.Core.List.{[], _∷_}
 use mathlib.Core.Bool.{Bool, true, false, cond, _&&_}
 use Prim.Native.Nat.{ℕ, zero, suc, _≤_, _<_, max}
 use native.Mathlib.Omega.{arith}
-use native.Mathlib.Decide.{decLt, ℕ-discrete}
+use native.Mathlib.Decide.{ℕ-discrete}
 use lib.Dec.{leb, ltb}
 use borrow.Author.Tests.{lt-ltb, le-ltb, le-leb, lt-leb, eq-eqb, ne-eqb}
 use Rattle.tables.specs.Inner.Rows.{Row, Rows, at, JoinedFrom, Joined, push, put, tabulate, top, combined}
+use Rattle.varint.proofs.Cases.{split}
 use Rattle.tables.proofs.Unique.{Kind, rows-one}
-
--- which of two numbers is less
-pub split : (a b : ℕ) → (a < b) ⊎ (b ≤ a)
-split a b = go (decLt a b)
-  where
-    go : Dec (a < b) → (a < b) ⊎ (b ≤ a)
-    go (yes h) = inl h
-    go (no h) = inr (omega arith)
 
 module _ (r : Row) (rs : Rows) {x : ℕ} where
   pub at-here : r .start ≤ x → x < r .end → at (r ∷ rs) x ≡ r .weight

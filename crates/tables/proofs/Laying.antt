@@ -10,7 +10,8 @@ use Rattle.tables.specs.Inner.Rows.{Row}
 use Rattle.tables.specs.Inner.Unite.{Passed}
 use Rattle.tables.specs.Inner.Cross.{Keeps}
 use Rattle.tables.specs.Inner.Differ.{GapStart, GapEnd}
-use Rattle.tables.proofs.Joining.{split, piece}
+use Rattle.varint.proofs.Cases.{split}
+use Rattle.tables.proofs.Joining.{piece}
 use Rattle.tables.proofs.Spanning.{Links, span-same}
 use Rattle.tables.proofs.Crossing.{Crossed, Crossing, crossed-step}
 use Rattle.tables.proofs.Differing.{Differed, Differing, differed-step}

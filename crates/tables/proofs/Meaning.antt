@@ -4,7 +4,8 @@ use mathlib.Core.Path.{_≡_, refl, ap₂, sym, _∙_}
 use Prim.Native.Nat.{ℕ, _≤_, _<_, max}
 use native.Mathlib.Omega.{arith}
 use Rattle.tables.specs.Inner.Rows.{Rows, at, Joined, top, combined, union}
-use Rattle.tables.proofs.Joining.{split, at-top, unique, Built, built}
+use Rattle.varint.proofs.Cases.{split}
+use Rattle.tables.proofs.Joining.{at-top, unique, Built, built}
 
 -- EXISTENCE AND UNIQUENESS: of the joined tables, combined f a b is the one that holds x with weight f (weight in a) (weight in b)
 pub combined-joined : (f : ℕ → ℕ → ℕ) (a b : Rows) → Joined (combined f a b)

@@ -11,7 +11,8 @@ use Rattle.tables.specs.Inner.Edit.{Plain, Moved}
 use Rattle.tables.specs.Inner.Unite.{Passed}
 use Rattle.tables.specs.Inner.Cross.{Keeps}
 use Rattle.tables.specs.Inner.Ends.{Stores, Dropped, Raised, Wide, Below, Above, Halves}
-use Rattle.tables.proofs.Joining.{split, at-here, at-past, at-below, at-top, Built, combination, piece}
+use Rattle.varint.proofs.Cases.{split}
+use Rattle.tables.proofs.Joining.{at-here, at-past, at-below, at-top, Built, combination, piece}
 use Rattle.tables.proofs.Spanning.{spanned, length-span, span-cons, span-none, span-same, push-adds}
 use Rattle.tables.proofs.Finding.{skip}
 use Rattle.tables.proofs.Uniting.{built-gap, built-push}

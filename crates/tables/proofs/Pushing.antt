@@ -8,7 +8,8 @@ use native.Mathlib.Numerals.{add-one}
 use lib.ListN.{length, length-append}
 use Rattle.tables.specs.Inner.Rows.{Row, Rows, push, span}
 use Rattle.tables.specs.Inner.Sweep.{Touches, Pushes, Holds}
-use Rattle.tables.proofs.Joining.{split, pushed, Pushed, grown, added, piece}
+use Rattle.varint.proofs.Cases.{split}
+use Rattle.tables.proofs.Joining.{pushed, Pushed, grown, added, piece}
 use Rattle.tables.proofs.Spanning.{length-span, span-snoc, span-same, push-last, push-grows, push-adds}
 
 -- rows that agree with the old ones below k, and then a row r

@@ -4,7 +4,7 @@ use mathlib.Core.Path.{_≡_, refl, sym, subst}
 use Prim.Native.Nat.{ℕ, zero, suc, _≤_, _<_}
 use native.Mathlib.Omega.{arith}
 use Rattle.tables.specs.Inner.Rows.{Rows, at, combined, union, difference, intersection}
-use Rattle.tables.proofs.Joining.{split}
+use Rattle.varint.proofs.Cases.{split}
 use Rattle.tables.proofs.Meaning.{combined-joined, combined-at}
 use Rattle.tables.proofs.Closing.{Units, units}
 

@@ -8,7 +8,8 @@ use native.Mathlib.Numerals.{add-one}
 use Rattle.tables.specs.Inner.Rows.{Row, Rows, at, JoinedFrom, top, push, put, combined, union, span}
 use Rattle.tables.specs.Inner.Sweep.{Touches, Pushes, Holds}
 use Rattle.tables.specs.Inner.Unite.{Passed, Ended, Counted, Starts, Ends, Last, Adds, Rest, United}
-use Rattle.tables.proofs.Joining.{split, at-past, at-below, at-top, Built, built-put, combination, piece, row-is}
+use Rattle.varint.proofs.Cases.{split}
+use Rattle.tables.proofs.Joining.{at-past, at-below, at-top, Built, built-put, combination, piece, row-is}
 use Rattle.tables.proofs.Spanning.{Links, spanned, span-cons, span-none, span-same}
 use Rattle.tables.proofs.Pushing.{pushes-add, pushes-over, pushes-grow, holds-push}
 use Rattle.tables.proofs.Closing.{span-unit}

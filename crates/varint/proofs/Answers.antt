@@ -25,8 +25,8 @@ use Rattle.varint.specs.declared.ReadI64.the-variants as i64
 use Rattle.varint.specs.declared.SignedI64.{SignedI64}
 use Rattle.varint.specs.declared.ReadSignedI64.{ReadSignedI64}
 use Rattle.varint.specs.declared.ReadSignedI64.the-variants as signed-i64
+use Rattle.varint.proofs.Cases.{split}
 use Rattle.varint.proofs.Chaining.{refuses}
-use Rattle.varint.proofs.Writing.{lt-or-ge}
 use Rattle.varint.proofs.Integers.{bitsOf, no-first}
 
 abbrev pub doneInt : ℤ → Bool → ℕ → IntAnswer
@@ -40,7 +40,7 @@ module _ (at : ℕ) (xs : List ℕ) {r : ReadU64} (said : said64 at r ≡ readBy
 
   -- of a number that was read there is a first byte
   pub first-there : {p next : ℕ} → r ≡ u64.Done p next → at < length xs
-  first-there e = ⊎-elim (λ (h : at < length xs). h) (λ (h : length xs ≤ at). let z : _≡_ {A = ℕ} 1 0 = ap (λ (a : Answer). a .no) (no-first at xs h ∙ rw e at (sym said)) in absurd (omega arith)) (lt-or-ge at (length xs))
+  first-there e = ⊎-elim (λ (h : at < length xs). h) (λ (h : length xs ≤ at). let z : _≡_ {A = ℕ} 1 0 = ap (λ (a : Answer). a .no) (no-first at xs h ∙ rw e at (sym said)) in absurd (omega arith)) (split at (length xs))
 
   pub signed-refused : {n : Refusal} → r ≡ u64.Refused n → refusedInt (noOf n) at ≡ signedAt xs at
   unfolding signedAt andThen

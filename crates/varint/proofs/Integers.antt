@@ -22,8 +22,9 @@ use mir.Facts.{toZ-pos, toZ-ofZ}
 use Rattle.varint.specs.Number.{Answer, done, refused, joined, reads, readBy, tenth, signed, written, bytesOf}
 use Rattle.varint.specs.Integer.{signedBytes, intBytes}
 use Rattle.varint.specs.Inner.{Stored, restAt}
+use Rattle.varint.proofs.Cases.{split}
 use Rattle.varint.proofs.Reading.{Going, over, ended, last, more}
-use Rattle.varint.proofs.Writing.{lt-or-ge, spare, bytes-most, at-end, single, room-there, full, wrote-all}
+use Rattle.varint.proofs.Writing.{spare, bytes-most, at-end, single, room-there, full, wrote-all}
 
 -- The reader's loop, which goes from shift 6, after the first byte, to 69.
 abbrev pub SignedBits : (at first from : ℕ) → List ℕ → (acc s p : ℕ) → Type 0
@@ -74,13 +75,13 @@ module _ (minus : Bool) (m : ℕ) where
   -- how many they are does not hang on the sign
   pub sign-length : length (signedBytes minus m) ≡ length (signedBytes false m)
   unfolding signedBytes written
-  sign-length = ⊎-elim (λ (h : m < 64). rw (lt-ltb m 64 h)) (λ (h : 64 ≤ m). rw (le-ltb m 64 h)) (lt-or-ge m 64)
+  sign-length = ⊎-elim (λ (h : m < 64). rw (lt-ltb m 64 h)) (λ (h : 64 ≤ m). rw (le-ltb m 64 h)) (split m 64)
 
 pub signed-ten : (m : ℕ) → Fits w64 m → length (signedBytes false m) ≤ 10
 signed-ten m f =
     ⊎-elim (λ (h : m < 64). omega (arith, ap length (signed-last false m h)))
     (λ (h : 64 ≤ m). omega (arith, ap length (signed-more false m h (f .fits)), bytes-most 8 (m / 64) (omega (arith, f .fits))))
-    (lt-or-ge m 64)
+    (split m 64)
 
 -- the length by the magnitude's range
 module _ (m : ℕ) where
@@ -161,7 +162,7 @@ module _ (minus : Bool) (m : ℕ) {b : ℕ} (e : b ≡ m % 64 + cond minus 64 0)
 module _ (minus : Bool) (m : ℕ) where
   pub signed-some : 1 ≤ length (signedBytes minus m)
   unfolding signedBytes written
-  signed-some = ⊎-elim (λ (h : m < 64). rw (lt-ltb m 64 h) (omega arith)) (λ (h : 64 ≤ m). rw (le-ltb m 64 h) (omega arith)) (lt-or-ge m 64)
+  signed-some = ⊎-elim (λ (h : m < 64). rw (lt-ltb m 64 h) (omega arith)) (λ (h : 64 ≤ m). rw (le-ltb m 64 h) (omega arith)) (split m 64)
 
   -- the room for all of them is that for the rest, behind the first
   pub rest-room : (at n : ℕ) {t : Bool} → Fits w64 m → 64 ≤ m → t ≡ leb (at + 1 + length (bytesOf (m / 64))) n → t ≡ leb (at + length (signedBytes minus m)) n

@@ -19,7 +19,8 @@ use mir.Val.{toZ}
 use mir.Facts.{toZ-pos, toZ-neg}
 use Rattle.varint.specs.Number.{Answer, done, joined, shifted, andThen, reads, readBy, eleventh, tenth, signed, readAt, bytesOf}
 use Rattle.varint.specs.Integer.{IntAnswer, minusAt, signedOf, signedAt, signedBytes}
-use Rattle.varint.proofs.Writing.{lt-or-ge, bytes-most}
+use Rattle.varint.proofs.Cases.{split}
+use Rattle.varint.proofs.Writing.{bytes-most}
 use Rattle.varint.proofs.Integers.{signed-last, signed-more, signed-ten, sign-length}
 use Rattle.varint.proofs.Answers.{doneInt}
 
@@ -56,7 +57,7 @@ module _ (stop : List ℕ → ℕ) (w at : ℕ) (stops : (bs : List ℕ) → 0 <
       let r = bounded n (s + 7) (joined w acc s (b % 128)) (p + 1) bs (rw c j) f in
       let k : 7 * (q - (p + 1)) + (s + 7) ≡ 7 * (q - p) + s = omega (arith, r .some) in
       record { some = omega (arith, r .some); small = rw k at (r .small) })
-      (lt-or-ge b 128)
+      (split b 128)
 
 sevens : (k : ℕ) → 2 ^ (7 * k) ≡ 128 ^ k
 sevens zero = refl
@@ -99,7 +100,7 @@ pattern-bounded m at q bytes e = go (drop at bytes) e
         (λ (h : 128 ≤ b).
         let r = bounded tenth 64 at tenth-stops 9 6 (joined 64 0 0 (b % 64)) (at + 1) bs j (rw (le-ltb b 128 h) at e) in
         (omega (arith, r .some), r .small))
-        (lt-or-ge b 128)
+        (split b 128)
 
 -- what a magnitude of so many bits takes
 signed-enough : (minus : Bool) (m k : ℕ) → m < 2 ^ 64 → m < 2 ^ (7 * k + 6) → length (signedBytes minus m) ≤ suc k
@@ -109,7 +110,7 @@ signed-enough minus m k l h =
     let e : 2 ^ (7 * k + 6) ≡ 2 ^ (7 * k) * 64 = pow-add 2 (7 * k) 6 in
     let s : m / 64 < 2 ^ (7 * k) = omega (arith, rw e at h) in
     omega (arith, ap length (signed-more minus m a l), enough (m / 64) k (positive k a h) s))
-    (lt-or-ge m 64)
+    (split m 64)
   where
     positive : (k : ℕ) → 64 ≤ m → m < 2 ^ (7 * k + 6) → 0 < k
     positive zero a h = absurd (let z : m < 64 = h in omega arith)
@@ -125,7 +126,7 @@ size-of true (suc k) h =
 
 -- any pattern's number has a magnitude below 2 ^ 64
 bits-small : (n : ℕ) → natAbs (toZ w64 n) < 2 ^ 64
-bits-small n = ⊎-elim (λ (l : n < 2 ^ 63). rw (lt-ltb n (2 ^ 63) l) (omega arith)) (λ (g : 2 ^ 63 ≤ n). rw (le-ltb n (2 ^ 63) g) (omega arith)) (lt-or-ge n (2 ^ 63))
+bits-small n = ⊎-elim (λ (l : n < 2 ^ 63). rw (lt-ltb n (2 ^ 63) l) (omega arith)) (λ (g : 2 ^ 63 ≤ n). rw (le-ltb n (2 ^ 63) g) (omega arith)) (split n (2 ^ 63))
 
 size-small : (minus : Bool) (m : ℕ) → natAbs (signedOf minus m) < 2 ^ 64
 size-small false m = bits-small m
@@ -136,7 +137,7 @@ nine : (m k : ℕ) → 2 ^ 63 ≤ m → m < 2 ^ (7 * k + 6) → 9 ≤ k
 nine m k g h =
     ⊎-elim (λ (l : k < 9). absurd (let z : 2 ^ (7 * k + 6) ≤ 2 ^ 62 = pow-mono {j = 62} (omega arith) in omega arith))
     (λ (l : 9 ≤ k). l)
-    (lt-or-ge k 9)
+    (split k 9)
 
 value-shortest : (sign minus : Bool) (m at q : ℕ) → at < q → m < 2 ^ (7 * (q - (at + 1)) + 6) → at + length (signedBytes minus (natAbs (signedOf sign m))) ≤ q
 value-shortest sign minus m at q some small =
@@ -145,7 +146,7 @@ value-shortest sign minus m at q some small =
     (λ (g : 2 ^ 63 ≤ m).
     let n = natAbs (signedOf sign m) in
     omega (arith, nine m (q - (at + 1)) g small, sign-length minus n, signed-ten n (record { fits = size-small sign m })))
-    (lt-or-ge m (2 ^ 63))
+    (split m (2 ^ 63))
 
 -- Any bytes that read to a signed value, with whatever flag, are at least as many as the writer's, with whatever flag.
 pub signed-shortest : (v : ℤ) (b minus : Bool) (at q : ℕ) (bytes : List ℕ) → signedAt bytes at ≡ doneInt v b q → at + length (signedBytes minus (natAbs v)) ≤ q

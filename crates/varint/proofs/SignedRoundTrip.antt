@@ -18,7 +18,7 @@ use mir.Val.{toZ}
 use mir.Facts.{toZ-pos, toZ-neg}
 use Rattle.varint.specs.Number.{done, joined, andThen, reads, readBy, tenth, signed, written, Written, writeAt}
 use Rattle.varint.specs.Integer.{minusAt, signedOf, signedAt, plain, fitting, signedBytes, intBytes, wrongSign, writeSignedAt}
-use Rattle.varint.proofs.Writing.{lt-or-ge}
+use Rattle.varint.proofs.Cases.{split}
 use Rattle.varint.proofs.RoundTrip.{Ready, back}
 use Rattle.varint.proofs.Chaining.{Put, put, put-read}
 use Rattle.varint.proofs.Integers.{first-joined, flag-small}
@@ -68,7 +68,7 @@ module _ (minus : Bool) (m at : ℕ) (bytes rest : List ℕ) (e : drop at bytes 
       }
 
   pub pattern-back : m < 2 ^ 64 → Back minus m at bytes
-  pattern-back l = ⊎-elim short (λ (h : 64 ≤ m). long h l) (lt-or-ge m 64)
+  pattern-back l = ⊎-elim short (λ (h : 64 ≤ m). long h l) (split m 64)
 
 -- a magnitude and a sign that is not wrong stand for the number, the least i64 too
 pub number-back : (minus : Bool) (v : ℤ) → mag v < 2 ^ 63 → wrongSign minus v ≡ false → signedOf minus (natAbs v) ≡ v

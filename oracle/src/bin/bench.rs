@@ -1,4 +1,4 @@
-//! bench [MS [SEED]]: measures, prints, and lays the tables into the file that SPEED names.
+//! bench [MS [SEED]]: measures, prints, and lays the tables into the file that SPEED names, in the part of this kind of machine.
 #[cfg(not(all(rattle, pace)))]
 fn main() { eprintln!("the proved libraries are not linked: RATTLE_LIB, PACE_LIB"); std::process::exit(2) }
 
@@ -30,9 +30,9 @@ fn main() {
         }
     }
     let after = load();
-    let cpu = read("/proc/cpuinfo");
-    let model = cpu.lines().find_map(|l| l.strip_prefix("model name")).map_or("?", |l| l.trim_start_matches(|c| c == ' ' || c == '\t' || c == ':'));
-    let cores = cpu.lines().filter(|l| l.starts_with("processor")).count();
+    let cores = read("/proc/cpuinfo").lines().filter(|l| l.starts_with("processor")).count();
+    let cpu = std::process::Command::new("lscpu").output().map_or(String::new(), |o| String::from_utf8_lossy(&o.stdout).into_owned());
+    let model = cpu.lines().find_map(|l| l.strip_prefix("Model name:")).map_or("?", str::trim);
     let ns = |x: f64| if x < 100.0 { format!("{x:.2}") } else if x < 10_000.0 { format!("{x:.0}") } else { format!("{:.1} µs", x / 1000.0) };
     let mut s = String::new();
     writeln!(s, "Machine: {model}, {cores} cores, {}; {}. Load average before {before}, after {after}{}. {} ms or more for each way of a row, seed {seed}; {}.\n",
@@ -65,10 +65,11 @@ fn main() {
         let cell = |x: &Option<(usize, f64, f64)>| x.map_or("-".into(), |(n, y, o)| format!("{}; {:.2}{}", ns(o), o / n as f64, if y.is_nan() { String::new() } else { format!("; {:.2}", o / y) }));
         writeln!(s, "| {name} | {} |", v.iter().map(cell).collect::<Vec<_>>().join(" | ")).unwrap();
     }
-    let (from, to) = ("<!-- measured -->\n", "<!-- end of measured -->");
+    let arch = std::env::consts::ARCH;
+    let (from, to) = (format!("<!-- measured on {arch} -->\n"), format!("<!-- end of {arch} -->"));
     if let Ok(file) = std::env::var("SPEED") {
         let old = read(&file);
-        let (head, tail) = match (old.split_once(from), old.split_once(to)) { (Some((h, _)), Some((_, t))) => (h.to_string(), t.to_string()), _ => ("# Speed\n\n".into(), "\n".into()) };
+        let (head, tail) = match (old.split_once(&from), old.split_once(&to)) { (Some((h, _)), Some((_, t))) => (h.to_string(), t.to_string()), _ => (format!("{old}\n"), "\n".into()) };
         std::fs::write(&file, format!("{head}{from}{s}{to}{tail}")).unwrap();
         println!("{met} of {all} goals met; {file}");
     }

@@ -42,15 +42,15 @@ pub fn get(t: Rows, client: ClientID) -> Result<u32, Refusal> {
 }
 /// The vector with the smaller clock stored; for an absent client the clock itself.
 pub fn set_min(t: Rows, client: ClientID, clock: u32, out: Out) -> Result<usize, Refusal> {
-    rows(sys::iz_vector_set_min(t.clients, t.clocks, t.count, client.get(), clock, out.clients, out.clocks))
+    made(sys::iz_vector_set_min(t.clients, t.clocks, t.count, client.get(), clock, out.clients, out.clocks))
 }
 /// The vector with the larger clock stored; an absent client gets a row, for clock 0 too.
 pub fn set_max(t: Rows, client: ClientID, clock: u32, out: Out) -> Result<usize, Refusal> {
-    rows(sys::iz_vector_set_max(t.clients, t.clocks, t.count, client.get(), clock, out.clients, out.clocks))
+    made(sys::iz_vector_set_max(t.clients, t.clocks, t.count, client.get(), clock, out.clients, out.clocks))
 }
 /// Every client of either vector, with the larger clock.
 pub fn merge(a: Rows, b: Rows, out: Out) -> Result<usize, Refusal> {
-    rows(sys::iz_vector_merge(a.clients, a.clocks, a.count, b.clients, b.clocks, b.count, out.clients, out.clocks))
+    made(sys::iz_vector_merge(a.clients, a.clocks, a.count, b.clients, b.clocks, b.count, out.clients, out.clocks))
 }
 /// The pointwise order, with absent as 0.
 pub fn partial_cmp(a: Rows, b: Rows) -> Result<Option<Ordering>, Refusal> {

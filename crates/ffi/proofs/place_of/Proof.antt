@@ -1,5 +1,5 @@
 -- `ffi::place_of` meets its contract: the laws of the boundary answer each need. Assumes nothing.
-use Rattle.ffi.proofs.Crossing.{writing}
+use Rattle.ffi.proofs.Answering.{answering}
 use Rattle.ffi.proofs.place_of.Statement.{statement}
 use Rattle.ffi.proofs.place_of.Tie as tie
 
@@ -7,8 +7,10 @@ pub place-of-spec : {M : Type 1} → statement M
 place-of-spec =
     tie.close
     (tie.spec
-    (λ c. search writing)
-    (λ c. search writing)
-    (λ c κs. search writing)
-    (λ c. search writing)
-    (λ c. search writing))
+    (λ c. search answering)
+    (λ c. search answering)
+    (λ c. search answering)
+    (λ c κs. search answering)
+    (λ c. search answering)
+    (λ c. search answering)
+    (λ c. search answering))

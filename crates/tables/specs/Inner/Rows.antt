@@ -1,5 +1,6 @@
--- Tables of joined rows, over the row kind. A row holds the numbers start, .., end - 1, each with the row's weight.
--- A weight is a number from 1: a unit row has weight 1, and a row with the reason code c has weight c + 1. Weight 0 says: not in the table.
+-- Tables of joined rows, over the row kind: what the proofs of ranges and ids go by. A row holds the numbers start, .., end - 1, each with the row's
+-- weight, a number from 1, which is its kind; weight 0 says: not in the table. Range rows and id rows have weight 1; an id (client, clock) is the number
+-- client * 2^32 + clock. The laws hold for whatever weights.
 use mathlib.Core.Path.{_≡_}
 use mathlib.Core.List.{List, [], _∷_}
 use mathlib.Core.Bool.{cond, _&&_}

@@ -1,10 +1,10 @@
--- `ffi::bound_of` meets its contract: the laws of the boundary answer each need. Assumes nothing.
+-- `ffi::edge_of` meets its contract: the laws of the boundary answer each need. Assumes nothing.
 use Rattle.ffi.proofs.Answering.{answering}
-use Rattle.ffi.proofs.bound_of.Statement.{statement}
-use Rattle.ffi.proofs.bound_of.Tie as tie
+use Rattle.ffi.proofs.edge_of.Statement.{statement}
+use Rattle.ffi.proofs.edge_of.Tie as tie
 
-pub bound-of-spec : {M : Type 1} → statement M
-bound-of-spec =
+pub edge-of-spec : {M : Type 1} → statement M
+edge-of-spec =
     tie.close
     (tie.spec
     (λ c. search answering)
