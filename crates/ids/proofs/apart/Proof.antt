@@ -16,17 +16,8 @@ abbrev μ-loop : tie.MeasureT-loop
 loop-holds : tie.Need-loop-holds Inv-loop μ-loop
 loop-holds c = (omega arith, tested-none _)
 
-add-loop : tie.Need-add-loop Inv-loop μ-loop
-add-loop c = search needs
-
-add-next : tie.Need-add-next Inv-loop μ-loop
-add-next c = search needs
-
 follows-requires : tie.Need-follows-requires Inv-loop μ-loop
 follows-requires c κs = ((omega arith, omega arith, omega arith, omega arith), (omega (arith, c .before .before .shared-slice-known3 .given (c .before .loop .i)), omega (arith, c .before .before .before .shared-slice-known2 .given (c .before .loop .i + 1))))
-
-loop-less : tie.Need-loop-less Inv-loop μ-loop
-loop-less c = search needs
 
 loop-again : tie.Need-loop-again Inv-loop μ-loop
 loop-again c = (omega arith, tested-more _ _ (c .before .before .loop .inv .1) (c .follows .ensures))
@@ -41,9 +32,9 @@ apart-spec =
     Inv-loop
     μ-loop
     loop-holds
-    add-loop
-    add-next
+    (λ c. search needs)
+    (λ c. search needs)
     follows-requires
-    loop-less
+    (λ c. search needs)
     loop-again
     returns)

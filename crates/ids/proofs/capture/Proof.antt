@@ -6,32 +6,11 @@ use borrow.Author.Needs.{needs}
 use Rattle.ids.proofs.capture.Statement.{statement}
 use Rattle.ids.proofs.capture.Tie as tie
 
-well-formed-requires : tie.Need-well-formed-requires
-well-formed-requires c κs = search needs
-
-pick-place-requires : tie.Need-pick-place-requires
-pick-place-requires c κs = search needs
-
-most-rows-requires : tie.Need-most-rows-requires
-most-rows-requires c κs = search needs
-
 copy-rows-requires : tie.Need-copy-rows-requires
 copy-rows-requires c κs =
     let p : tie.After-pick-place = search in
     let t = checked-walked (p .before .well-formed .ensures) (p .pick-place .ensures) in
     (omega (arith, t .few), search needs)
-
-finish-requires : tie.Need-finish-requires
-finish-requires c κs = search needs
-
-same-length : tie.Need-same-length
-same-length c = search needs
-
-same-length-2 : tie.Need-same-length-2
-same-length-2 c = search needs
-
-same-length-3 : tie.Need-same-length-3
-same-length-3 c = search needs
 
 abbrev start : tie.After-shared-slice-known3 → tie.Start
 start c = search
@@ -50,12 +29,12 @@ pub capture-spec : {M : Type 1} → statement M
 capture-spec =
     tie.close
     (tie.spec
-    well-formed-requires
-    pick-place-requires
-    most-rows-requires
+    (λ c κs. search needs)
+    (λ c κs. search needs)
+    (λ c κs. search needs)
     copy-rows-requires
-    finish-requires
-    same-length
-    same-length-2
-    same-length-3
+    (λ c κs. search needs)
+    (λ c. search needs)
+    (λ c. search needs)
+    (λ c. search needs)
     returns)

@@ -5,9 +5,6 @@ use borrow.Author.Needs.{needs}
 use Rattle.ids.proofs.contains.Statement.{statement}
 use Rattle.ids.proofs.contains.Tie as tie
 
-well-formed-requires : tie.Need-well-formed-requires
-well-formed-requires c κs = search needs
-
 returns : tie.Need-returns
 returns c = told-refused (c .before .well-formed .ensures) (c .if1 .taken)
 
@@ -22,4 +19,4 @@ returns-3 c = told-absent (c .before .before .before .well-formed .ensures) (c .
 
 pub contains-spec : {M : Type 1} → statement M
 contains-spec =
-    tie.close (tie.spec well-formed-requires returns search-requires returns-2 returns-3)
+    tie.close (tie.spec (λ c κs. search needs) returns search-requires returns-2 returns-3)

@@ -17,40 +17,10 @@ abbrev μ-loop : tie.MeasureT-loop
 loop-holds : tie.Need-loop-holds Inv-loop μ-loop
 loop-holds c = (c .before .before .pre .1, omega arith)
 
-sub-mid : tie.Need-sub-mid Inv-loop μ-loop
-sub-mid c = search needs
-
-add-mid : tie.Need-add-mid Inv-loop μ-loop
-add-mid c = search needs
-
-mul-past : tie.Need-mul-past Inv-loop μ-loop
-mul-past c = search needs
-
-shared-slice-read-past : tie.Need-shared-slice-read-past Inv-loop μ-loop
-shared-slice-read-past c = search needs
-
-mul-past-2 : tie.Need-mul-past-2 Inv-loop μ-loop
-mul-past-2 c = search needs
-
-shared-slice-read-past-2 : tie.Need-shared-slice-read-past-2 Inv-loop μ-loop
-shared-slice-read-past-2 c = search needs
-
-past-requires : tie.Need-past-requires Inv-loop μ-loop
-past-requires c κs = search needs
-
-loop-less : tie.Need-loop-less Inv-loop μ-loop
-loop-less c = search needs
-
 loop-again : tie.Need-loop-again Inv-loop μ-loop
 loop-again c =
     let at-loop : tie.At-loop Inv-loop μ-loop = search in
     (parted-left (at-loop .loop .lo + (at-loop .loop .hi - at-loop .loop .lo) / 2) (at-loop .loop .inv .0) (omega arith) (omega arith) (c .before .past .ensures .right (c .if1 .taken)), omega arith)
-
-add-lo : tie.Need-add-lo Inv-loop μ-loop
-add-lo c = search needs
-
-loop-less-2 : tie.Need-loop-less-2 Inv-loop μ-loop
-loop-less-2 c = search needs
 
 loop-again-2 : tie.Need-loop-again-2 Inv-loop μ-loop
 loop-again-2 c =
@@ -67,16 +37,16 @@ count-below-spec =
     Inv-loop
     μ-loop
     loop-holds
-    sub-mid
-    add-mid
-    mul-past
-    shared-slice-read-past
-    mul-past-2
-    shared-slice-read-past-2
-    past-requires
-    loop-less
+    (λ c. search needs)
+    (λ c. search needs)
+    (λ c. search needs)
+    (λ c. search needs)
+    (λ c. search needs)
+    (λ c. search needs)
+    (λ c κs. search needs)
+    (λ c. search needs)
     loop-again
-    add-lo
-    loop-less-2
+    (λ c. search needs)
+    (λ c. search needs)
     loop-again-2
     returns)

@@ -17,37 +17,19 @@ returns c =
     let at-start : tie.Start Inv-loop μ-loop = search in
     counting-none _ _ _ (c .before .before .shared-slice-known2 .given) _ (at-start .pre) (c .if1 .taken)
 
-sub-i : tie.Need-sub-i Inv-loop μ-loop
-sub-i c = search needs
-
 loop-holds : tie.Need-loop-holds Inv-loop μ-loop
 loop-holds c =
     let at-start : tie.Start Inv-loop μ-loop = search in
     (omega arith, omega arith, counting-one _ _ _ (c .before .before .shared-slice-known2 .given) _ (at-start .pre) (omega arith))
 
-sub-j : tie.Need-sub-j Inv-loop μ-loop
-sub-j c = search needs
-
-mul-fresh : tie.Need-mul-fresh Inv-loop μ-loop
-mul-fresh c = search needs
-
 shared-slice-read-fresh : tie.Need-shared-slice-read-fresh Inv-loop μ-loop
 shared-slice-read-fresh c = let at-start : tie.Start Inv-loop μ-loop = search in omega (arith, at-start .pre .few)
-
-mul-fresh-2 : tie.Need-mul-fresh-2 Inv-loop μ-loop
-mul-fresh-2 c = search needs
 
 shared-slice-read-fresh-2 : tie.Need-shared-slice-read-fresh-2 Inv-loop μ-loop
 shared-slice-read-fresh-2 c = let at-start : tie.Start Inv-loop μ-loop = search in omega (arith, at-start .pre .few)
 
-fresh-requires : tie.Need-fresh-requires Inv-loop μ-loop
-fresh-requires c κs = search needs
-
 add-many : tie.Need-add-many Inv-loop μ-loop
 add-many c = let at-start : tie.Start Inv-loop μ-loop = search in let f = fresh-most (c .fresh .ensures) in omega (arith, at-start .pre .few)
-
-loop-less : tie.Need-loop-less Inv-loop μ-loop
-loop-less c = search needs
 
 loop-again : tie.Need-loop-again Inv-loop μ-loop
 loop-again c = (
@@ -68,15 +50,15 @@ count-clients-spec =
     Inv-loop
     μ-loop
     returns
-    sub-i
+    (λ c. search needs)
     loop-holds
-    sub-j
-    mul-fresh
+    (λ c. search needs)
+    (λ c. search needs)
     shared-slice-read-fresh
-    mul-fresh-2
+    (λ c. search needs)
     shared-slice-read-fresh-2
-    fresh-requires
+    (λ c κs. search needs)
     add-many
-    loop-less
+    (λ c. search needs)
     loop-again
     returns-2)

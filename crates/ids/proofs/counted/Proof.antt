@@ -4,12 +4,6 @@ use borrow.Author.Needs.{needs}
 use Rattle.ids.proofs.counted.Statement.{statement}
 use Rattle.ids.proofs.counted.Tie as tie
 
-past-requires : tie.Need-past-requires
-past-requires c κs = search needs
-
-add-result : tie.Need-add-result
-add-result c = search needs
-
 returns : tie.Need-returns
 returns c = record { on = λ _. refl; off = λ h. absurd (omega (arith, c .before .past .ensures .right (c .if1 .taken))) }
 
@@ -17,4 +11,4 @@ returns-2 : tie.Need-returns-2
 returns-2 c = record { on = λ h. absurd (c .before .past .ensures .wrong (c .if1 .left) h); off = λ _. refl }
 
 pub counted-spec : {M : Type 1} → statement M
-counted-spec = tie.close (tie.spec past-requires add-result returns returns-2)
+counted-spec = tie.close (tie.spec (λ c κs. search needs) (λ c. search needs) returns returns-2)

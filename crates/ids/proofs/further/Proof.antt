@@ -4,9 +4,6 @@ use borrow.Author.Needs.{needs}
 use Rattle.ids.proofs.further.Statement.{statement}
 use Rattle.ids.proofs.further.Tie as tie
 
-add-f : tie.Need-add-f
-add-f c = search needs
-
 returns : tie.Need-returns
 returns c = further-old _ _ _ _ (omega arith) (c .if1 .taken)
 
@@ -14,4 +11,4 @@ returns-2 : tie.Need-returns-2
 returns-2 c = further-new _ _ _ _ (omega arith) (omega arith) (omega arith) (c .if1 .left)
 
 pub further-spec : {M : Type 1} → statement M
-further-spec = tie.close (tie.spec add-f returns returns-2)
+further-spec = tie.close (tie.spec (λ c. search needs) returns returns-2)

@@ -11,18 +11,6 @@ use borrow.Author.Needs.{needs}
 use Rattle.ids.proofs.insert_range.Statement.{statement}
 use Rattle.ids.proofs.insert_range.Tie as tie
 
-capture-requires : tie.Need-capture-requires
-capture-requires c κs = search needs
-
-same-length : tie.Need-same-length
-same-length c = search needs
-
-same-length-2 : tie.Need-same-length-2
-same-length-2 c = search needs
-
-same-length-3 : tie.Need-same-length-3
-same-length-3 c = search needs
-
 returns : tie.Need-returns
 returns c =
     let f : tie.After-capture = search in
@@ -31,29 +19,8 @@ returns c =
     let a = s .args in
     captured-inserted _ (row (a .client .0) (a .start .0) (a .end .0)) (three (a .to-clients .now) (a .to-starts .now) (a .to-ends .now)) _ (f .capture .result) (t .if1 .taken) (f .capture .ensures)
 
-well-formed-requires : tie.Need-well-formed-requires
-well-formed-requires c κs = search needs
-
-pick-place-requires : tie.Need-pick-place-requires
-pick-place-requires c κs = search needs
-
-most-rows-requires : tie.Need-most-rows-requires
-most-rows-requires c κs = search needs
-
 put-in-requires : tie.Need-put-in-requires
 put-in-requires c κs = (search walking, (search needs, search needs))
-
-finish-requires : tie.Need-finish-requires
-finish-requires c κs = search needs
-
-same-length-4 : tie.Need-same-length-4
-same-length-4 c = search needs
-
-same-length-5 : tie.Need-same-length-5
-same-length-5 c = search needs
-
-same-length-6 : tie.Need-same-length-6
-same-length-6 c = search needs
 
 abbrev start : tie.After-shared-slice-known3 → tie.Start
 start c = search
@@ -87,17 +54,17 @@ pub insert-range-spec : {M : Type 1} → statement M
 insert-range-spec =
     tie.close
     (tie.spec
-    capture-requires
-    same-length
-    same-length-2
-    same-length-3
+    (λ c κs. search needs)
+    (λ c. search needs)
+    (λ c. search needs)
+    (λ c. search needs)
     returns
-    well-formed-requires
-    pick-place-requires
-    most-rows-requires
+    (λ c κs. search needs)
+    (λ c κs. search needs)
+    (λ c κs. search needs)
     put-in-requires
-    finish-requires
-    same-length-4
-    same-length-5
-    same-length-6
+    (λ c κs. search needs)
+    (λ c. search needs)
+    (λ c. search needs)
+    (λ c. search needs)
     returns-2)

@@ -4,9 +4,6 @@ use borrow.Author.Needs.{needs}
 use Rattle.ids.proofs.len.Statement.{statement}
 use Rattle.ids.proofs.len.Tie as tie
 
-well-formed-requires : tie.Need-well-formed-requires
-well-formed-requires c κs = search needs
-
 returns : tie.Need-returns
 returns c = counted-malformed (c .before .well-formed .ensures .says .wrong (not-true _ (c .if1 .taken)))
 
@@ -17,4 +14,4 @@ returns-2 : tie.Need-returns-2
 returns-2 c = counted-is _ (c .before .before .well-formed .ensures .says .right (not-false _ (c .before .if1 .left))) (c .count-clients .ensures)
 
 pub len-spec : {M : Type 1} → statement M
-len-spec = tie.close (tie.spec well-formed-requires returns count-clients-requires returns-2)
+len-spec = tie.close (tie.spec (λ c κs. search needs) returns count-clients-requires returns-2)

@@ -12,9 +12,6 @@ count-below-requires c κs =
     let at-start : tie.Start = search in
     let t = at-start .pre .0 in ((omega (arith, t .few), omega (arith, t .few), omega (arith, at-start .good)), parted-all _ _ _)
 
-add-count-below : tie.Need-add-count-below
-add-count-below c = search needs
-
 count-below-requires-2 : tie.Need-count-below-requires-2
 count-below-requires-2 c κs =
     let at-known3 : tie.After-shared-slice-known3 = search in
@@ -76,15 +73,6 @@ splice-requires-2 c κs =
     let at-start : tie.Start = search in
     (at-count-below2 .count-below2 .ensures .1, at-count-below2 .count-below2 .ensures .0 .within, omega (arith, at-start .pre .0 .few), omega (arith, at-else1 .if1 .left, at-start .pre .1 .1))
 
-same-length : tie.Need-same-length
-same-length c = search needs
-
-same-length-2 : tie.Need-same-length-2
-same-length-2 c = search needs
-
-same-length-3 : tie.Need-same-length-3
-same-length-3 c = search needs
-
 returns-2 : tie.Need-returns-2
 returns-2 c =
     let at-splice : tie.After-splice = search in
@@ -102,7 +90,7 @@ put-in-spec =
     tie.close
     (tie.spec
     count-below-requires
-    add-count-below
+    (λ c. search needs)
     count-below-requires-2
     lead-requires
     trail-requires
@@ -113,7 +101,7 @@ put-in-spec =
     splice-wide-requires
     splice-requires
     splice-requires-2
-    same-length
-    same-length-2
-    same-length-3
+    (λ c. search needs)
+    (λ c. search needs)
+    (λ c. search needs)
     returns-2)

@@ -7,18 +7,6 @@ use borrow.Author.Needs.{needs}
 use Rattle.ids.proofs.splice.Statement.{statement}
 use Rattle.ids.proofs.splice.Tie as tie
 
-shift-requires : tie.Need-shift-requires
-shift-requires c κs = search needs
-
-mul-out : tie.Need-mul-out
-mul-out c = search needs
-
-slice-write-out : tie.Need-slice-write-out
-slice-write-out c = search needs
-
-add-shift : tie.Need-add-shift
-add-shift c = search needs
-
 shift-requires-2 : tie.Need-shift-requires-2
 shift-requires-2 c κs =
     let at-shift : tie.After-shift = search in
@@ -38,10 +26,10 @@ pub splice-spec : {M : Type 1} → statement M
 splice-spec =
     tie.close
     (tie.spec
-    shift-requires
-    mul-out
-    slice-write-out
-    add-shift
+    (λ c κs. search needs)
+    (λ c. search needs)
+    (λ c. search needs)
+    (λ c. search needs)
     shift-requires-2
     same-length
     returns)

@@ -7,18 +7,6 @@ use borrow.Author.Needs.{needs}
 use Rattle.ids.proofs.splice_wide.Statement.{statement}
 use Rattle.ids.proofs.splice_wide.Tie as tie
 
-shift-wide-requires : tie.Need-shift-wide-requires
-shift-wide-requires c κs = search needs
-
-mul-out : tie.Need-mul-out
-mul-out c = search needs
-
-slice-write-out : tie.Need-slice-write-out
-slice-write-out c = search needs
-
-add-shift-wide : tie.Need-add-shift-wide
-add-shift-wide c = search needs
-
 shift-wide-requires-2 : tie.Need-shift-wide-requires-2
 shift-wide-requires-2 c κs =
     let at-shift-wide : tie.After-shift-wide = search in
@@ -38,10 +26,10 @@ pub splice-wide-spec : {M : Type 1} → statement M
 splice-wide-spec =
     tie.close
     (tie.spec
-    shift-wide-requires
-    mul-out
-    slice-write-out
-    add-shift-wide
+    (λ c κs. search needs)
+    (λ c. search needs)
+    (λ c. search needs)
+    (λ c. search needs)
     shift-wide-requires-2
     same-length
     returns)

@@ -3,27 +3,6 @@ use borrow.Author.Needs.{needs}
 use Rattle.ids.proofs.trail.Statement.{statement}
 use Rattle.ids.proofs.trail.Tie as tie
 
-returns : tie.Need-returns
-returns c = search needs
-
-sub-k : tie.Need-sub-k
-sub-k c = search needs
-
-mul-y : tie.Need-mul-y
-mul-y c = search needs
-
-shared-slice-read-y : tie.Need-shared-slice-read-y
-shared-slice-read-y c = search needs
-
-mul-precedes : tie.Need-mul-precedes
-mul-precedes c = search needs
-
-shared-slice-read-precedes : tie.Need-shared-slice-read-precedes
-shared-slice-read-precedes c = search needs
-
-precedes-requires : tie.Need-precedes-requires
-precedes-requires c κs = search needs
-
 returns-2 : tie.Need-returns-2
 returns-2 c =
     let at-else1 : tie.Else1 = search in
@@ -40,12 +19,12 @@ pub trail-spec : {M : Type 1} → statement M
 trail-spec =
     tie.close
     (tie.spec
-    returns
-    sub-k
-    mul-y
-    shared-slice-read-y
-    mul-precedes
-    shared-slice-read-precedes
-    precedes-requires
+    (λ c. search needs)
+    (λ c. search needs)
+    (λ c. search needs)
+    (λ c. search needs)
+    (λ c. search needs)
+    (λ c. search needs)
+    (λ c κs. search needs)
     returns-2
     returns-3)

@@ -5,17 +5,8 @@ use borrow.Author.Needs.{needs}
 use Rattle.ids.proofs.well_formed.Statement.{statement}
 use Rattle.ids.proofs.well_formed.Tie as tie
 
-most-rows-requires : tie.Need-most-rows-requires
-most-rows-requires c κs = search needs
-
 returns : tie.Need-returns
 returns c = unchecked _ _ _ _ (omega arith)
-
-none-empty-requires : tie.Need-none-empty-requires
-none-empty-requires c κs = search needs
-
-apart-requires : tie.Need-apart-requires
-apart-requires c κs = search needs
 
 returns-2 : tie.Need-returns-2
 returns-2 c =
@@ -25,4 +16,4 @@ returns-2 c =
 
 pub well-formed-spec : {M : Type 1} → statement M
 well-formed-spec =
-    tie.close (tie.spec most-rows-requires returns none-empty-requires apart-requires returns-2)
+    tie.close (tie.spec (λ c κs. search needs) returns (λ c κs. search needs) (λ c κs. search needs) returns-2)
