@@ -13,10 +13,10 @@ use Rattle.tables.specs.Inner.Rows as inner
 use Rattle.tables.specs.Inner.Rows.{combined, difference, intersection, span}
 use Rattle.tables.specs.Inner.Sweep.{Holds}
 use Rattle.tables.specs.Inner.Edit.{Plain}
-use Rattle.tables.specs.Inner.Ends.{Wide, Below, Above, Halves, GapsFrom, GapsTo}
+use Rattle.tables.specs.Inner.Ends.{Turns, Below, Above, Halves, GapsFrom, GapsTo}
 use Rattle.tables.proofs.Uniting.{holds-other}
 use Rattle.tables.proofs.Gaps.{gaps, gaps-plain, gaps-combined}
-use Rattle.tables.proofs.Meeting.{Meeting, meeting-none, meeting-turn, meeting-rest, meeting-halves, meeting-less, below-less}
+use Rattle.tables.proofs.Meeting.{Meeting, meeting-none, meeting-turn, meeting-rest, meeting-halves, meeting-less, below-less, turns-wide, turns-less}
 use Rattle.ranges.specs.Inner.{rowAt, rowsOf, Ruled}
 use Rattle.ranges.proofs.Editing.{ruled-plain}
 
@@ -90,26 +90,26 @@ module _ {a : List ℕ} {n : ℕ} {rb : ℕ → inner.Row} {m : ℕ} {Asks : ℕ
 
     -- ## A turn of both walks
 
-    module _ {on : Bool} (s : Says (Wide i j k u v t) on) (g : on ≡ true) where
+    module _ {c : ℕ} (s : Turns c i j k u v t) (g : 0 < c) where
       pub turn-step : Step a Asks out i j k t
-      turn-step = step (omega (arith, s .right g .left), omega (arith, s .right g .right))
+      turn-step = step (omega (arith, s .left), omega (arith, s .right))
 
       pub turn-above : StepAbove a Asks u v
       turn-above =
           record {
-            left = omega (arith, s .right g .left);
-            right = omega (arith, s .right g .right);
-            row = omega (arith, w .one .fits, w .met .one .within, s .right g .left);
-            asks = w .asks (v - 1) (omega (arith, w .met .two .within, s .right g .right));
+            left = omega (arith, s .left);
+            right = omega (arith, s .right);
+            row = omega (arith, w .one .fits, w .met .one .within, s .left);
+            asks = w .asks (v - 1) (omega (arith, w .met .two .within, s .right));
           }
 
       pub turn-down : {l : ℕ} → l ≡ length out → (2 * t ≤ l) × ((0 < u) × ((0 < v) × (0 < t)))
-      turn-down e = (omega (arith, w .room, w .same, w .met .within), (omega (arith, s .right g .left), (omega (arith, s .right g .right), omega (arith, s .right g .room))))
+      turn-down e = (omega (arith, w .room, w .same, w .met .within), (omega (arith, s .left), (omega (arith, s .right), omega (arith, s .room))))
 
       pub turn-more : {out₂ : List ℕ} {row′ : ℕ → inner.Row} {l i′ j′ k′ u′ v′ t′ p e q f p₂ e₂ q₂ f₂ : ℕ} → Read (rowAt a) i p e → Read rb j q f
           → Below t (rowAt out) i j k p e q f row′ i′ j′ k′ → l ≡ length out → Read (rowAt a) (u - 1) p₂ e₂ → Read rb (v - 1) q₂ f₂
           → Above row′ u v t p₂ e₂ q₂ f₂ (rowAt out₂) u′ v′ t′ → length out₂ ≡ l → Walk a n rb m Asks most len out₂ i′ j′ k′ u′ v′ t′
-      turn-more x y b l x₂ y₂ c l₂ = walk-to (l₂ ∙ l) (meeting-turn _ _ _ _ _ (ruled-plain (w .one)) (w .two) (s .right g) x y b x₂ y₂ c (w .met))
+      turn-more x y b l x₂ y₂ d l₂ = walk-to (l₂ ∙ l) (meeting-turn _ _ _ _ _ (ruled-plain (w .one)) (w .two) (turns-wide s g) x y b x₂ y₂ d (w .met))
 
     -- ## And of the one from below alone
 
@@ -121,9 +121,14 @@ module _ {a : List ℕ} {n : ℕ} {rb : ℕ → inner.Row} {m : ℕ} {Asks : ℕ
           → Below t (rowAt out) i j k p e q f (rowAt out′) i′ j′ k′ → length out′ ≡ length out → Walk a n rb m Asks most len out′ i′ j′ k′ u v t
       rest-more x y b l = walk-to l (meeting-rest _ _ _ _ _ (ruled-plain (w .one)) (w .two) (s .right g) x y b (w .met))
 
-pub turn-less : {i j k u v t p e q f i′ j′ k′ p₂ e₂ q₂ f₂ u′ v′ t′ : ℕ} {on : Bool} {row row′ row₂ : ℕ → inner.Row} → Says (Wide i j k u v t) on → on ≡ true
-    → Below t row i j k p e q f row′ i′ j′ k′ → Above row′ u v t p₂ e₂ q₂ f₂ row₂ u′ v′ t′ → (u′ + v′) - (i′ + j′) < (u + v) - (i + j)
-turn-less s g b c = meeting-less (s .right g) b c
+module _ {c i j k u v t p e q f i′ j′ k′ p₂ e₂ q₂ f₂ u′ v′ t′ : ℕ} {row row′ row₂ : ℕ → inner.Row} (s : Turns c i j k u v t) (g : 0 < c)
+    (b : Below t row i j k p e q f row′ i′ j′ k′) (d : Above row′ u v t p₂ e₂ q₂ f₂ row₂ u′ v′ t′) where
+  -- what `turns_left` asks
+  pub turn-left : (0 < c) × Turns (c - 1) i′ j′ k′ u′ v′ t′
+  turn-left = (g, turns-less s g b d)
+
+  pub turn-less : (u′ + v′) - (i′ + j′) < (u + v) - (i + j)
+  turn-less = meeting-less (turns-wide s g) b d
 
 pub rest-less : {i j k u v room p e q f i′ j′ k′ : ℕ} {on : Bool} {row row′ : ℕ → inner.Row} → Says ((i < u) × (j < v)) on → on ≡ true
     → Below room row i j k p e q f row′ i′ j′ k′ → (u + v) - (i′ + j′) < (u + v) - (i + j)

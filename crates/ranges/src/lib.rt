@@ -10,7 +10,7 @@ ghost use Rattle.tables.specs.Inner.Sweep.{Holds};
 ghost use Rattle.tables.specs.Inner.Unite.{Passed, Counted, Starts, Ends, Last, Adds, United};
 ghost use Rattle.tables.specs.Inner.Cross.{Keeps};
 ghost use Rattle.tables.specs.Inner.Differ.{GapStart, GapEnd};
-ghost use Rattle.tables.specs.Inner.Ends.{Stores, Dropped, Raised, Wide, Below, Above, Halves, GapsFrom, GapsTo};
+ghost use Rattle.tables.specs.Inner.Ends.{Stores, Dropped, Raised, Turns, Below, Above, Halves, GapsFrom, GapsTo};
 ghost use Rattle.tables.specs.Inner.Edit.{range, Advanced, Parted, starts, ends, Starting, Ending, Moved, Stands};
 ghost use Rattle.ranges.specs.Tables.{most, Merged, Excluded, Intersected, Inserted, Removed, FromRanges, ContainsClock, FindStart, ClockStart, ClockEnd, Len, IsEmpty, Get};
 ghost use Rattle.ranges.specs.Inner.{rowAt, rowsOf, Ruled, Wrote, Picked};
@@ -582,14 +582,22 @@ pub fn merge(a: &[u32], n: usize, b: &[u32], m: usize, out: &mut [u32]) -> table
 
 // ## Two walks at once, from below and from above, until they meet: neither waits for the rows that the other reads next. Both lay rows in the output, and those from above are brought down at the end.
 
-// The row x, .., y - 1 as row `k`, while there is room.
+// The row x, .., y - 1 as row `k`.
+fn store_row(out: &mut [u32], k: usize, x: u32, y: u32)
+    requires { ⌜ 2 * k + 1 < length (now out) ⌝ }
+    ensures { λ r. ⌜ ((room : ℕ) → k < room → Stores room (rowAt (now (out .entry))) k x y (rowAt (now (out .exit)))) ⌝ }
+{
+    out[2 * k] = x;
+    out[2 * k + 1] = y;
+}
+
+// The same, while there is room.
 fn lay(out: &mut [u32], most: usize, k: usize, x: u32, y: u32)
     requires { ⌜ 2 * most ≤ length (now out) ⌝ }
     ensures { λ r. ⌜ Stores most (rowAt (now (out .entry))) k x y (rowAt (now (out .exit))) ⌝ }
 {
     if k < most {
-        out[2 * k] = x;
-        out[2 * k + 1] = y;
+        store_row(out, k, x, y);
     }
 }
 
@@ -674,30 +682,36 @@ fn down(out: &mut [u32], z: High, p: Piece, q: Piece) -> High
     let u = dropped(z.u, p.start, x);
     let v = dropped(z.v, q.start, x);
     let t = raised(z.t, x, y);
-    lay(out, z.t, z.t - 1, x, y);
+    store_row(out, z.t - 1, x, y);
     High { u: u, v: v, t: t }
 }
 
-// Whether both walks can go on by a row, and there is room for both.
-fn apart(w: Low, z: High) -> bool
-    requires { ⌜ w .i ≤ 2 * rowLimit + 1 ⌝ }
-    requires { ⌜ w .j ≤ 2 * rowLimit + 1 ⌝ }
-    requires { ⌜ w .k ≤ 2 * rowLimit + 1 ⌝ }
-    ensures { λ r. ⌜ Says (Wide (w .i) (w .j) (w .k) (z .u) (z .v) (z .t)) r ⌝ }
+fn least(x: usize, y: usize) -> usize
+    ensures { λ r. ⌜ r ≡ min x y ⌝ }
 {
-    let i = w.i + 1;
-    if z.u <= i {
-        return false;
+    if x < y { x } else { y }
+}
+
+// How many turns of both walks surely fit: a turn takes a row of each table from below and one from above at most, and room for as many.
+fn turns(w: Low, z: High) -> usize
+    requires { ⌜ w .i ≤ z .u ⌝ }
+    requires { ⌜ w .j ≤ z .v ⌝ }
+    requires { ⌜ w .k ≤ z .t ⌝ }
+    ensures { λ r. ⌜ Turns r (w .i) (w .j) (w .k) (z .u) (z .v) (z .t) ⌝ }
+{
+    least(least((z.u - w.i) / 2, (z.v - w.j) / 2), (z.t - w.k) / 2)
+}
+
+// How many after a turn of `c`: one less, and reckoned anew where none is left. So a turn has one test.
+fn turns_left(c: usize, w: Low, z: High) -> usize
+    requires { ⌜ 0 < c ⌝ }
+    requires { ⌜ Turns (c - 1) (w .i) (w .j) (w .k) (z .u) (z .v) (z .t) ⌝ }
+    ensures { λ r. ⌜ Turns r (w .i) (w .j) (w .k) (z .u) (z .v) (z .t) ⌝ }
+{
+    if 1 < c {
+        return c - 1;
     }
-    let j = w.j + 1;
-    if z.v <= j {
-        return false;
-    }
-    let k = w.k + 1;
-    if z.t <= k {
-        return false;
-    }
-    true
+    turns(w, z)
 }
 
 // Whether rows of both tables are left between the walks.
@@ -807,9 +821,11 @@ fn differ(a: &[u32], n: usize, b: &[u32], m: usize, out: &mut [u32], most: usize
         v: hi - lo,
         t: most,
     };
-    while apart(w, z) {
+    let mut c = turns(w, z);
+    while 0 < c {
         w = up(out, z.t, w, row_at(a, w.i), gap_at(b, m, lo + w.j));
         z = down(out, z, row_at(a, z.u - 1), gap_at(b, m, lo + (z.v - 1)));
+        c = turns_left(c, w, z);
     }
     while between(w, z) {
         w = up(out, z.t, w, row_at(a, w.i), gap_at(b, m, lo + w.j));
@@ -843,9 +859,11 @@ fn cross(a: &[u32], n: usize, b: &[u32], m: usize, out: &mut [u32], most: usize)
         v: m,
         t: most,
     };
-    while apart(w, z) {
+    let mut c = turns(w, z);
+    while 0 < c {
         w = up(out, z.t, w, row_at(a, w.i), row_at(b, w.j));
         z = down(out, z, row_at(a, z.u - 1), row_at(b, z.v - 1));
+        c = turns_left(c, w, z);
     }
     while between(w, z) {
         w = up(out, z.t, w, row_at(a, w.i), row_at(b, w.j));

@@ -10,7 +10,7 @@ use Rattle.tables.specs.Inner.Sweep.{Holds}
 use Rattle.tables.specs.Inner.Edit.{Plain, Moved}
 use Rattle.tables.specs.Inner.Unite.{Passed}
 use Rattle.tables.specs.Inner.Cross.{Keeps}
-use Rattle.tables.specs.Inner.Ends.{Stores, Dropped, Raised, Wide, Below, Above, Halves}
+use Rattle.tables.specs.Inner.Ends.{Stores, Dropped, Raised, Wide, Turns, Below, Above, Halves}
 use Rattle.varint.proofs.Cases.{split}
 use Rattle.tables.proofs.Joining.{at-here, at-past, at-below, at-top, Built, combination, piece}
 use Rattle.tables.proofs.Spanning.{spanned, length-span, span-cons, span-none, span-same, push-adds}
@@ -83,6 +83,23 @@ meeting-less {u = u} {v = v} {p₂ = p₂} {q₂ = q₂} {u′ = u′} {v′ = v
 
     two : v′ ≤ v
     two = ⊎-elim (λ l. omega (arith, r .two .off l)) (λ l. omega (arith, r .two .on l)) (split q₂ (max p₂ q₂))
+
+-- a turn, where one fits, leaves one less
+pub turns-wide : {c i j k u v t : ℕ} → Turns c i j k u v t → 0 < c → Wide i j k u v t
+turns-wide f h = record { left = omega (arith, f .left); right = omega (arith, f .right); room = omega (arith, f .room) }
+
+pub turns-less : {c i j k p e q f i′ j′ k′ u v t p₂ e₂ q₂ f₂ u′ v′ t′ : ℕ} {row row′ row₂ : ℕ → Row} → Turns c i j k u v t → 0 < c
+    → Below t row i j k p e q f row′ i′ j′ k′ → Above row′ u v t p₂ e₂ q₂ f₂ row₂ u′ v′ t′ → Turns (c - 1) i′ j′ k′ u′ v′ t′
+turns-less {u = u} {v = v} {t = t} {p₂ = p₂} {e₂ = e₂} {q₂ = q₂} {f₂ = f₂} {u′ = u′} {v′ = v′} {t′ = t′} g h s r = record { left = omega (arith, g .left, below-few s .0, one); right = omega (arith, g .right, below-few s .1, two); room = omega (arith, g .room, below-few s .2, three) }
+  where
+    one : u ≤ u′ + 1
+    one = ⊎-elim (λ l. omega (arith, r .one .off l)) (λ l. omega (arith, r .one .on l)) (split p₂ (max p₂ q₂))
+
+    two : v ≤ v′ + 1
+    two = ⊎-elim (λ l. omega (arith, r .two .off l)) (λ l. omega (arith, r .two .on l)) (split q₂ (max p₂ q₂))
+
+    three : t ≤ t′ + 1
+    three = ⊎-elim (λ l. omega (arith, r .raised .new l)) (λ l. omega (arith, r .raised .old l)) (split (max p₂ q₂) (min e₂ f₂))
 
 -- a piece behind a gap is a row of its own
 push-apart : (lo w : ℕ) (rs : Rows) (s e : ℕ) → JoinedFrom lo w rs → top rs ≤ s → ((z : ℕ) → suc z ≡ s → at rs z ≡ 0) → push rs s e 1 ≡ rs ++ (piece s e 1 ∷ [])

@@ -3,105 +3,112 @@ use mathlib.Core.Path.{_∙_}
 use Prim.Native.Nat.{ℕ, _+_, _-_, _*_, _<_}
 use native.Mathlib.Omega.{arith}
 use lib.ListN.{length}
+use Rattle.tables.specs.Inner.Ends.{Turns}
 use Rattle.ranges.specs.Inner.{rowAt}
 use Rattle.ranges.proofs.Editing.{ruled-plain}
-use Rattle.ranges.proofs.Walking.{Walk, walk-none, walk-on, walk-bounds, walk-settle, walk-halves, turn-step, turn-above, turn-down, turn-more, turn-less, rest-step, rest-more, rest-less}
+use Rattle.ranges.proofs.Walking.{Walk, walk-none, walk-on, walk-settle, walk-halves, turn-step, turn-above, turn-down, turn-more, turn-left, turn-less, rest-step, rest-more, rest-less}
 use borrow.Author.Needs.{needs}
 use Rattle.ranges.proofs.cross.Statement.{statement}
 use Rattle.ranges.proofs.cross.Tie as tie
 
 abbrev Inv-loop : tie.InvT-loop
-Inv-loop a n b m out₀ most w₀ z₀ out w z = Walk a n (rowAt b) m (λ (j : ℕ). 2 * j + 1 < length b) most (length out₀) out (w .i) (w .j) (w .k) (z .u) (z .v) (z .t)
+Inv-loop a n b m out₀ most w₀ z₀ c₀ out w z c = Walk a n (rowAt b) m (λ (j : ℕ). 2 * j + 1 < length b) most (length out₀) out (w .i) (w .j) (w .k) (z .u) (z .v) (z .t) × Turns c (w .i) (w .j) (w .k) (z .u) (z .v) (z .t)
 
 abbrev μ-loop : tie.MeasureT-loop
-μ-loop a n b m out₀ most w₀ z₀ out w z = (z .u + z .v) - (w .i + w .j)
+μ-loop a n b m out₀ most w₀ z₀ c₀ out w z c = (z .u + z .v) - (w .i + w .j)
 
 abbrev Inv-loop2 : tie.InvT-loop2
-Inv-loop2 a n b m out₀ most w₀ z out w = Walk a n (rowAt b) m (λ (j : ℕ). 2 * j + 1 < length b) most (length out₀) out (w .i) (w .j) (w .k) (z .u) (z .v) (z .t)
+Inv-loop2 a n b m out₀ most w₀ z c out w = Walk a n (rowAt b) m (λ (j : ℕ). 2 * j + 1 < length b) most (length out₀) out (w .i) (w .j) (w .k) (z .u) (z .v) (z .t)
 
 abbrev μ-loop2 : tie.MeasureT-loop2
-μ-loop2 a n b m out₀ most w₀ z out w = (z .u + z .v) - (w .i + w .j)
+μ-loop2 a n b m out₀ most w₀ z c out w = (z .u + z .v) - (w .i + w .j)
 
 -- a turn of the first loop, and of the second
 abbrev Turn : Type 0
-Turn = tie.Then1 Inv-loop μ-loop Inv-loop2 μ-loop2
+Turn = tie.In-loop Inv-loop μ-loop Inv-loop2 μ-loop2
 
 abbrev Rest : Type 0
-Rest = tie.Then2 Inv-loop μ-loop Inv-loop2 μ-loop2
+Rest = tie.Then1 Inv-loop μ-loop Inv-loop2 μ-loop2
 
 loop-holds : tie.Need-loop-holds Inv-loop μ-loop Inv-loop2 μ-loop2
 loop-holds c =
     let s : tie.Start Inv-loop μ-loop Inv-loop2 μ-loop2 = search in
-    walk-none (s .pre .0) (ruled-plain (s .pre .1 .0)) (omega (arith, s .pre .1 .0 .few)) (λ j h. omega (arith, s .pre .1 .0 .fits)) (s .pre .1 .1)
-
-apart-requires : tie.Need-apart-requires Inv-loop μ-loop Inv-loop2 μ-loop2
-apart-requires c κs = walk-bounds (c .loop .inv)
+    (walk-none (s .pre .0) (ruled-plain (s .pre .1 .0)) (omega (arith, s .pre .1 .0 .few)) (λ j h. omega (arith, s .pre .1 .0 .fits)) (s .pre .1 .1), c .turns .ensures)
 
 row-at-requires : tie.Need-row-at-requires Inv-loop μ-loop Inv-loop2 μ-loop2
-row-at-requires c κs = let t : Turn = search in turn-step (t .before .before .loop .inv) (t .before .apart .ensures) (t .if1 .taken) .row
+row-at-requires c κs = let t : Turn = search in turn-step (t .before .loop .inv .0) (t .before .loop .inv .1) (t .loop-test .taken) .row
 
 row-at-requires-2 : tie.Need-row-at-requires-2 Inv-loop μ-loop Inv-loop2 μ-loop2
-row-at-requires-2 c κs = let t : Turn = search in turn-step (t .before .before .loop .inv) (t .before .apart .ensures) (t .if1 .taken) .asks
+row-at-requires-2 c κs = let t : Turn = search in turn-step (t .before .loop .inv .0) (t .before .loop .inv .1) (t .loop-test .taken) .asks
 
 up-requires : tie.Need-up-requires Inv-loop μ-loop Inv-loop2 μ-loop2
-up-requires c κs = let t : Turn = search in turn-step (t .before .before .loop .inv) (t .before .apart .ensures) (t .if1 .taken) .up
+up-requires c κs = let t : Turn = search in turn-step (t .before .loop .inv .0) (t .before .loop .inv .1) (t .loop-test .taken) .up
 
 sub-row-at : tie.Need-sub-row-at Inv-loop μ-loop Inv-loop2 μ-loop2
-sub-row-at c = let t : Turn = search in turn-above (t .before .before .loop .inv) (t .before .apart .ensures) (t .if1 .taken) .left
+sub-row-at c = let t : Turn = search in turn-above (t .before .loop .inv .0) (t .before .loop .inv .1) (t .loop-test .taken) .left
 
 row-at-requires-3 : tie.Need-row-at-requires-3 Inv-loop μ-loop Inv-loop2 μ-loop2
-row-at-requires-3 c κs = let t : Turn = search in turn-above (t .before .before .loop .inv) (t .before .apart .ensures) (t .if1 .taken) .row
+row-at-requires-3 c κs = let t : Turn = search in turn-above (t .before .loop .inv .0) (t .before .loop .inv .1) (t .loop-test .taken) .row
 
 sub-row-at-2 : tie.Need-sub-row-at-2 Inv-loop μ-loop Inv-loop2 μ-loop2
-sub-row-at-2 c = let t : Turn = search in turn-above (t .before .before .loop .inv) (t .before .apart .ensures) (t .if1 .taken) .right
+sub-row-at-2 c = let t : Turn = search in turn-above (t .before .loop .inv .0) (t .before .loop .inv .1) (t .loop-test .taken) .right
 
 row-at-requires-4 : tie.Need-row-at-requires-4 Inv-loop μ-loop Inv-loop2 μ-loop2
-row-at-requires-4 c κs = let t : Turn = search in turn-above (t .before .before .loop .inv) (t .before .apart .ensures) (t .if1 .taken) .asks
+row-at-requires-4 c κs = let t : Turn = search in turn-above (t .before .loop .inv .0) (t .before .loop .inv .1) (t .loop-test .taken) .asks
 
 down-requires : tie.Need-down-requires Inv-loop μ-loop Inv-loop2 μ-loop2
 down-requires c κs =
     let u : tie.After-up Inv-loop μ-loop Inv-loop2 μ-loop2 = search in
     let t : Turn = search in
-    turn-down (t .before .before .loop .inv) (t .before .apart .ensures) (t .if1 .taken) (u .up .kept .0)
+    turn-down (t .before .loop .inv .0) (t .before .loop .inv .1) (t .loop-test .taken) (u .up .kept .0)
+
+turns-left-requires : tie.Need-turns-left-requires Inv-loop μ-loop Inv-loop2 μ-loop2
+turns-left-requires c κs =
+    let d : tie.After-down Inv-loop μ-loop Inv-loop2 μ-loop2 = search in
+    let u : tie.After-up Inv-loop μ-loop Inv-loop2 μ-loop2 = search in
+    let t : Turn = search in
+    turn-left (t .before .loop .inv .1) (t .loop-test .taken) (u .up .ensures) (d .down .ensures)
 
 loop-less : tie.Need-loop-less Inv-loop μ-loop Inv-loop2 μ-loop2
 loop-less c =
     let d : tie.After-down Inv-loop μ-loop Inv-loop2 μ-loop2 = search in
     let u : tie.After-up Inv-loop μ-loop Inv-loop2 μ-loop2 = search in
     let t : Turn = search in
-    turn-less (t .before .apart .ensures) (t .if1 .taken) (u .up .ensures) (d .down .ensures)
+    turn-less (t .before .loop .inv .1) (t .loop-test .taken) (u .up .ensures) (d .down .ensures)
 
 loop-again : tie.Need-loop-again Inv-loop μ-loop Inv-loop2 μ-loop2
 loop-again c =
     let d : tie.After-down Inv-loop μ-loop Inv-loop2 μ-loop2 = search in
     let u : tie.After-up Inv-loop μ-loop Inv-loop2 μ-loop2 = search in
-    let t : Turn = search in
-    turn-more (t .before .before .loop .inv) (t .before .apart .ensures) (t .if1 .taken) (u .before .before .row-at .ensures) (u .before .row-at2 .ensures) (u .up .ensures) (u .up .kept .0)
-    (d .before .before .before .row-at3 .ensures) (d .before .row-at4 .ensures) (d .down .ensures) (d .down .kept .0)
+    let t : Turn = search in (
+      turn-more (t .before .loop .inv .0) (t .before .loop .inv .1) (t .loop-test .taken) (u .before .before .row-at .ensures) (u .before .row-at2 .ensures) (u .up .ensures) (u .up .kept .0)
+          (d .before .before .before .row-at3 .ensures) (d .before .row-at4 .ensures) (d .down .ensures) (d .down .kept .0),
+      c .turns-left .ensures,
+    )
 
 loop2-holds : tie.Need-loop2-holds Inv-loop μ-loop Inv-loop2 μ-loop2
-loop2-holds c = walk-on (c .before .before .loop .inv)
+loop2-holds c = walk-on (c .before .loop .inv .0)
 
 row-at-requires-5 : tie.Need-row-at-requires-5 Inv-loop μ-loop Inv-loop2 μ-loop2
-row-at-requires-5 c κs = let r : Rest = search in rest-step (r .before .before .loop2 .inv) (r .before .between .ensures) (r .if2 .taken) .row
+row-at-requires-5 c κs = let r : Rest = search in rest-step (r .before .before .loop2 .inv) (r .before .between .ensures) (r .if1 .taken) .row
 
 row-at-requires-6 : tie.Need-row-at-requires-6 Inv-loop μ-loop Inv-loop2 μ-loop2
-row-at-requires-6 c κs = let r : Rest = search in rest-step (r .before .before .loop2 .inv) (r .before .between .ensures) (r .if2 .taken) .asks
+row-at-requires-6 c κs = let r : Rest = search in rest-step (r .before .before .loop2 .inv) (r .before .between .ensures) (r .if1 .taken) .asks
 
 up-requires-2 : tie.Need-up-requires-2 Inv-loop μ-loop Inv-loop2 μ-loop2
-up-requires-2 c κs = let r : Rest = search in rest-step (r .before .before .loop2 .inv) (r .before .between .ensures) (r .if2 .taken) .up
+up-requires-2 c κs = let r : Rest = search in rest-step (r .before .before .loop2 .inv) (r .before .between .ensures) (r .if1 .taken) .up
 
 loop2-less : tie.Need-loop2-less Inv-loop μ-loop Inv-loop2 μ-loop2
 loop2-less c =
     let u : tie.After-up2 Inv-loop μ-loop Inv-loop2 μ-loop2 = search in
     let r : Rest = search in
-    rest-less (r .before .between .ensures) (r .if2 .taken) (u .up2 .ensures)
+    rest-less (r .before .between .ensures) (r .if1 .taken) (u .up2 .ensures)
 
 loop2-again : tie.Need-loop2-again Inv-loop μ-loop Inv-loop2 μ-loop2
 loop2-again c =
     let u : tie.After-up2 Inv-loop μ-loop Inv-loop2 μ-loop2 = search in
     let r : Rest = search in
-    rest-more (r .before .before .loop2 .inv) (r .before .between .ensures) (r .if2 .taken) (u .before .before .row-at5 .ensures) (u .before .row-at6 .ensures) (u .up2 .ensures) (u .up2 .kept .0)
+    rest-more (r .before .before .loop2 .inv) (r .before .between .ensures) (r .if1 .taken) (u .before .before .row-at5 .ensures) (u .before .row-at6 .ensures) (u .up2 .ensures) (u .up2 .kept .0)
 
 settle-requires : tie.Need-settle-requires Inv-loop μ-loop Inv-loop2 μ-loop2
 settle-requires c κs = let l : tie.At-loop2 Inv-loop μ-loop Inv-loop2 μ-loop2 = search in walk-settle (l .loop2 .inv)
@@ -111,13 +118,13 @@ same-length c =
     let s : tie.After-settle Inv-loop μ-loop Inv-loop2 μ-loop2 = search in
     let l2 : tie.At-loop2 Inv-loop μ-loop Inv-loop2 μ-loop2 = search in
     let l : tie.At-loop Inv-loop μ-loop Inv-loop2 μ-loop2 = search in
-    s .settle .kept .0 ∙ (l2 .loop2 .inv .same ∙ l .loop .inv .same)
+    s .settle .kept .0 ∙ (l2 .loop2 .inv .same ∙ l .loop .inv .0 .same)
 
 returns : tie.Need-returns Inv-loop μ-loop Inv-loop2 μ-loop2
 returns c =
     let s : tie.After-settle Inv-loop μ-loop Inv-loop2 μ-loop2 = search in
-    let e : tie.Else2 Inv-loop μ-loop Inv-loop2 μ-loop2 = search in
-    s .settle .ensures _ (walk-halves (e .before .before .loop2 .inv) (e .before .between .ensures) (e .if2 .left))
+    let e : tie.Else1 Inv-loop μ-loop Inv-loop2 μ-loop2 = search in
+    s .settle .ensures _ (walk-halves (e .before .before .loop2 .inv) (e .before .between .ensures) (e .if1 .left))
 
 pub cross-spec : {M : Type 1} → statement M
 cross-spec =
@@ -127,8 +134,8 @@ cross-spec =
     μ-loop
     Inv-loop2
     μ-loop2
+    (λ c κs. search needs)
     loop-holds
-    apart-requires
     row-at-requires
     row-at-requires-2
     up-requires
@@ -137,6 +144,7 @@ cross-spec =
     sub-row-at-2
     row-at-requires-4
     down-requires
+    turns-left-requires
     loop-less
     loop-again
     loop2-holds

@@ -1,7 +1,7 @@
 -- What the private functions of two walks say, one from below and one from above, that meet. A step takes the row p, .., e - 1 of the one table and q, .., f - 1 of the other.
 use mathlib.Core.Path.{_≡_}
 use mathlib.Core.List.{_++_}
-use Prim.Native.Nat.{ℕ, _+_, _-_, _≤_, _<_, max, min}
+use Prim.Native.Nat.{ℕ, _+_, _-_, _*_, _≤_, _<_, max, min}
 use Rattle.tables.specs.Inner.Rows.{Row, Rows, span}
 use Rattle.tables.specs.Inner.Sweep.{Holds}
 use Rattle.tables.specs.Inner.Unite.{Passed}
@@ -28,6 +28,12 @@ pub record Wide (i j k u v t : ℕ) : Type 0 where
   pub left : i + 1 < u
   pub right : j + 1 < v
   pub room : k + 1 < t
+
+-- c turns of both walks fit: rows of both tables are left for all of them, and room
+pub record Turns (c i j k u v t : ℕ) : Type 0 where
+  pub left : i + 2 * c ≤ u
+  pub right : j + 2 * c ≤ v
+  pub room : k + 2 * c ≤ t
 
 -- A step from below: what the two rows share is laid as row k, and a row that ends first is passed
 pub record Below (room : ℕ) (row : ℕ → Row) (i j k p e q f : ℕ) (row′ : ℕ → Row) (i′ j′ k′ : ℕ) : Type 0 where
