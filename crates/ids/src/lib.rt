@@ -24,17 +24,11 @@ fn precedes(c: u64, x: u32, d: u64, y: u32) -> bool
     c < d
 }
 
-fn least(x: usize, y: usize) -> usize
-    ensures { λ r. ⌜ r ≡ min x y ⌝ }
-{
-    if x < y { x } else { y }
-}
-
 // How many rows three slices of these lengths hold, within the limit.
 fn most_rows(a: usize, b: usize, c: usize) -> usize
     ensures { λ r. ⌜ r ≡ min rowLimit (min a (min b c)) ⌝ }
 {
-    least(tables::ROW_LIMIT, least(a, least(b, c)))
+    tables::lesser(tables::ROW_LIMIT, tables::lesser(a, tables::lesser(b, c)))
 }
 
 // Whether none of the first `n` rows is empty.

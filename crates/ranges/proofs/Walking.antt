@@ -16,7 +16,7 @@ use Rattle.tables.specs.Inner.Edit.{Plain}
 use Rattle.tables.specs.Inner.Ends.{Turns, Below, Above, Halves, GapsFrom, GapsTo}
 use Rattle.tables.proofs.Uniting.{holds-other}
 use Rattle.tables.proofs.Gaps.{gaps, gaps-plain, gaps-combined}
-use Rattle.tables.proofs.Meeting.{Meeting, meeting-none, meeting-turn, meeting-rest, meeting-halves, meeting-less, below-less, turns-wide, turns-less}
+use Rattle.tables.proofs.Meeting.{Meeting, meeting-none, meeting-turn, meeting-rest, meeting-halves, meeting-less, below-less, turns-less}
 use Rattle.ranges.specs.Inner.{rowAt, rowsOf, Ruled}
 use Rattle.ranges.proofs.Editing.{ruled-plain}
 
@@ -62,14 +62,11 @@ module _ {a : List ℕ} {n : ℕ} {rb : ℕ → inner.Row} {m : ℕ} {Asks : ℕ
     pub walk-on : Walk a n rb m Asks most (length out) out i j k u v t
     walk-on = record { one = w .one; two = w .two; few = w .few; asks = w .asks; room = omega (arith, w .room, w .same); same = refl; met = w .met }
 
-    pub walk-bounds : (i ≤ 2 * rowLimit + 1) × ((j ≤ 2 * rowLimit + 1) × (k ≤ 2 * rowLimit + 1))
-    walk-bounds = (
-      omega (arith, w .one .few, w .met .left, w .met .one .within),
-      (omega (arith, w .few, w .met .right, w .met .two .within), omega (arith, w .one .few, w .few, w .met .left, w .met .right, w .met .one .within, w .met .two .within, w .met .crossed .few)),
-    )
-
     pub walk-settle : (2 * most ≤ length out) × ((t ≤ most) × (k ≤ 2 * rowLimit + 1))
-    walk-settle = (omega (arith, w .room, w .same), (w .met .within, walk-bounds .1 .1))
+    walk-settle = (
+      omega (arith, w .room, w .same),
+      (w .met .within, omega (arith, w .one .few, w .few, w .met .left, w .met .right, w .met .one .within, w .met .two .within, w .met .crossed .few)),
+    )
 
     pub walk-halves : {on : Bool} → Says ((i < u) × (j < v)) on → on ≡ false → Halves most (rowAt out) k t (combined intersection (rowsOf a n) (span rb 0 m))
     walk-halves s e = meeting-halves _ _ _ _ _ (ruled-plain (w .one)) (w .two) (s .wrong e) (w .met)
@@ -109,7 +106,7 @@ module _ {a : List ℕ} {n : ℕ} {rb : ℕ → inner.Row} {m : ℕ} {Asks : ℕ
       pub turn-more : {out₂ : List ℕ} {row′ : ℕ → inner.Row} {l i′ j′ k′ u′ v′ t′ p e q f p₂ e₂ q₂ f₂ : ℕ} → Read (rowAt a) i p e → Read rb j q f
           → Below t (rowAt out) i j k p e q f row′ i′ j′ k′ → l ≡ length out → Read (rowAt a) (u - 1) p₂ e₂ → Read rb (v - 1) q₂ f₂
           → Above row′ u v t p₂ e₂ q₂ f₂ (rowAt out₂) u′ v′ t′ → length out₂ ≡ l → Walk a n rb m Asks most len out₂ i′ j′ k′ u′ v′ t′
-      turn-more x y b l x₂ y₂ d l₂ = walk-to (l₂ ∙ l) (meeting-turn _ _ _ _ _ (ruled-plain (w .one)) (w .two) (turns-wide s g) x y b x₂ y₂ d (w .met))
+      turn-more x y b l x₂ y₂ d l₂ = walk-to (l₂ ∙ l) (meeting-turn _ _ _ _ _ (ruled-plain (w .one)) (w .two) s g x y b x₂ y₂ d (w .met))
 
     -- ## And of the one from below alone
 
@@ -128,7 +125,7 @@ module _ {c i j k u v t p e q f i′ j′ k′ p₂ e₂ q₂ f₂ u′ v′ t�
   turn-left = (g, turns-less s g b d)
 
   pub turn-less : (u′ + v′) - (i′ + j′) < (u + v) - (i + j)
-  turn-less = meeting-less (turns-wide s g) b d
+  turn-less = meeting-less s g b d
 
 pub rest-less : {i j k u v room p e q f i′ j′ k′ : ℕ} {on : Bool} {row row′ : ℕ → inner.Row} → Says ((i < u) × (j < v)) on → on ≡ true
     → Below room row i j k p e q f row′ i′ j′ k′ → (u + v) - (i′ + j′) < (u + v) - (i + j)

@@ -686,12 +686,6 @@ fn down(out: &mut [u32], z: High, p: Piece, q: Piece) -> High
     High { u: u, v: v, t: t }
 }
 
-fn least(x: usize, y: usize) -> usize
-    ensures { λ r. ⌜ r ≡ min x y ⌝ }
-{
-    if x < y { x } else { y }
-}
-
 // How many turns of both walks surely fit: a turn takes a row of each table from below and one from above at most, and room for as many.
 fn turns(w: Low, z: High) -> usize
     requires { ⌜ w .i ≤ z .u ⌝ }
@@ -699,7 +693,10 @@ fn turns(w: Low, z: High) -> usize
     requires { ⌜ w .k ≤ z .t ⌝ }
     ensures { λ r. ⌜ Turns r (w .i) (w .j) (w .k) (z .u) (z .v) (z .t) ⌝ }
 {
-    least(least((z.u - w.i) / 2, (z.v - w.j) / 2), (z.t - w.k) / 2)
+    tables::lesser(
+        tables::lesser((z.u - w.i) / 2, (z.v - w.j) / 2),
+        (z.t - w.k) / 2,
+    )
 }
 
 // How many after a turn of `c`: one less, and reckoned anew where none is left. So a turn has one test.

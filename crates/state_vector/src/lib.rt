@@ -270,17 +270,11 @@ fn larger(a: u32, b: u32) -> u32
     if a < b { b } else { a }
 }
 
-fn lesser(a: usize, b: usize) -> usize
-    ensures { λ r. ⌜ r ≡ min a b ⌝ }
-{
-    if a < b { a } else { b }
-}
-
 // How many rows two slices of these lengths may hold.
 fn most_rows(a: usize, b: usize) -> usize
     ensures { λ r. ⌜ r ≡ min vectorLimit (min a b) ⌝ }
 {
-    lesser(tables::VECTOR_LIMIT, lesser(a, b))
+    tables::lesser(tables::VECTOR_LIMIT, tables::lesser(a, b))
 }
 
 // Every element becomes zero.
@@ -555,7 +549,7 @@ fn merge_front(
     ensures { λ r. ⌜ Fronts (two (now (clients .entry)) (now (clocks .entry))) n (two (now («b_clients» .entry)) (now («b_clocks» .entry))) m
         most (two (now («to_clients» .exit)) (now («to_clocks» .exit))) r ⌝ }
 {
-    let front = lesser(same_front(clients, b_clients, lesser(n, m)), most);
+    let front = tables::lesser(same_front(clients, b_clients, tables::lesser(n, m)), most);
     copy_wide(clients, front, to_clients);
     larger_front(clocks, b_clocks, front, to_clocks);
     front
@@ -673,7 +667,7 @@ fn cmp_rows(
     requires { ⌜ Table (held (now «b_clients») (now «b_clocks») m) ⌝ }
     ensures { λ r. ⌜ Judges (rowsOf n (now (clients .entry)) (now (clocks .entry))) (rowsOf m (now («b_clients» .entry)) (now («b_clocks» .entry))) r ⌝ }
 {
-    let front = same_front(clients, b_clients, lesser(n, m));
+    let front = same_front(clients, b_clients, tables::lesser(n, m));
     let mut i = front;
     let mut j = front;
     let mut less = any_less(clocks, b_clocks, front);

@@ -5,15 +5,19 @@ use mathlib.Core.Bool.{Bool}
 use mathlib.Core.List.{List}
 use Prim.Native.Nat.{ℕ}
 use denote.Ref.{now}
-use Rattle.varint.proofs.Determining.{Settles}
+use Rattle.varint.proofs.Determining.{Answers, Settles}
 use Rattle.tables.specs.Answers.{Gives, Tells, Says, saidMade, saidTold}
 use Rattle.tables.specs.declared.Made.{Made}
 use Rattle.tables.specs.declared.Told.{Told}
 use Rattle.tables.proofs.Giving.{One, gives-determined, tells-determined}
 use Rattle.tables.proofs.Saying.{says-one}
 use Rattle.tables.proofs.Viewing.{made-same, told-same}
+use Rattle.tables.proofs.lesser.Reads as lesser
 use Rattle.tables.proofs.zero.Reads as zero
 use Rattle.tables.proofs.zero_wide.Reads as zero-wide
+
+pub lesser-determined : Answers lesser.Learnt
+lesser-determined κ x r s y z p q = p ∙ sym q
 
 pub zero-determined : Settles zero.Learnt (λ κ y. now (y .0))
 zero-determined κ x r s y z p q = (refl, p ∙ sym q)

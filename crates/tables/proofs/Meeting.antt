@@ -10,7 +10,7 @@ use Rattle.tables.specs.Inner.Sweep.{Holds}
 use Rattle.tables.specs.Inner.Edit.{Plain, Moved}
 use Rattle.tables.specs.Inner.Unite.{Passed}
 use Rattle.tables.specs.Inner.Cross.{Keeps}
-use Rattle.tables.specs.Inner.Ends.{Stores, Dropped, Raised, Wide, Turns, Below, Above, Halves}
+use Rattle.tables.specs.Inner.Ends.{Stores, Dropped, Raised, Turns, Below, Above, Halves}
 use Rattle.varint.proofs.Cases.{split}
 use Rattle.tables.proofs.Joining.{at-here, at-past, at-below, at-top, Built, combination, piece}
 use Rattle.tables.proofs.Spanning.{spanned, length-span, span-cons, span-none, span-same, push-adds}
@@ -74,9 +74,9 @@ below-on s = moves _ _ _ _ _ _ _ refl (s .one) (s .two)
 pub below-less : {room i j k p e q f i′ j′ k′ u v : ℕ} {row row′ : ℕ → Row} → (i < u) × (j < v) → Below room row i j k p e q f row′ i′ j′ k′ → (u + v) - (i′ + j′) < (u + v) - (i + j)
 below-less h s = omega (arith, h .0, h .1, below-on s)
 
-pub meeting-less : {i j k p e q f i′ j′ k′ u v t p₂ e₂ q₂ f₂ u′ v′ t′ : ℕ} {row row′ row₂ : ℕ → Row} → Wide i j k u v t
+pub meeting-less : {c i j k p e q f i′ j′ k′ u v t p₂ e₂ q₂ f₂ u′ v′ t′ : ℕ} {row row′ row₂ : ℕ → Row} → Turns c i j k u v t → 0 < c
     → Below t row i j k p e q f row′ i′ j′ k′ → Above row′ u v t p₂ e₂ q₂ f₂ row₂ u′ v′ t′ → (u′ + v′) - (i′ + j′) < (u + v) - (i + j)
-meeting-less {u = u} {v = v} {p₂ = p₂} {q₂ = q₂} {u′ = u′} {v′ = v′} h s r = omega (arith, h .left, h .right, below-on s, one, two)
+meeting-less {u = u} {v = v} {p₂ = p₂} {q₂ = q₂} {u′ = u′} {v′ = v′} h g s r = omega (arith, h .left, h .right, below-on s, one, two)
   where
     one : u′ ≤ u
     one = ⊎-elim (λ l. omega (arith, r .one .off l)) (λ l. omega (arith, r .one .on l)) (split p₂ (max p₂ q₂))
@@ -84,10 +84,7 @@ meeting-less {u = u} {v = v} {p₂ = p₂} {q₂ = q₂} {u′ = u′} {v′ = v
     two : v′ ≤ v
     two = ⊎-elim (λ l. omega (arith, r .two .off l)) (λ l. omega (arith, r .two .on l)) (split q₂ (max p₂ q₂))
 
--- a turn, where one fits, leaves one less
-pub turns-wide : {c i j k u v t : ℕ} → Turns c i j k u v t → 0 < c → Wide i j k u v t
-turns-wide f h = record { left = omega (arith, f .left); right = omega (arith, f .right); room = omega (arith, f .room) }
-
+-- a turn leaves room for one less
 pub turns-less : {c i j k p e q f i′ j′ k′ u v t p₂ e₂ q₂ f₂ u′ v′ t′ : ℕ} {row row′ row₂ : ℕ → Row} → Turns c i j k u v t → 0 < c
     → Below t row i j k p e q f row′ i′ j′ k′ → Above row′ u v t p₂ e₂ q₂ f₂ row₂ u′ v′ t′ → Turns (c - 1) i′ j′ k′ u′ v′ t′
 turns-less {u = u} {v = v} {t = t} {p₂ = p₂} {e₂ = e₂} {q₂ = q₂} {f₂ = f₂} {u′ = u′} {v′ = v′} {t′ = t′} g h s r = record { left = omega (arith, g .left, below-few s .0, one); right = omega (arith, g .right, below-few s .1, two); room = omega (arith, g .room, below-few s .2, three) }
@@ -335,11 +332,11 @@ module _ (ra : ℕ → Row) (n : ℕ) (rb : ℕ → Row) (m most : ℕ) (ta : Pl
         }
 
   -- a turn: both steps, with rows as they were read
-  pub meeting-turn : {i i′ u u′ j j′ v v′ k k′ t t′ p e q f p₂ e₂ q₂ f₂ : ℕ} {row row′ row₂ : ℕ → Row} → Wide i j k u v t
+  pub meeting-turn : {c₀ i i′ u u′ j j′ v v′ k k′ t t′ p e q f p₂ e₂ q₂ f₂ : ℕ} {row row′ row₂ : ℕ → Row} → Turns c₀ i j k u v t → 0 < c₀
       → (p ≡ ra i .start) × (e ≡ ra i .end) → (q ≡ rb j .start) × (f ≡ rb j .end) → Below t row i j k p e q f row′ i′ j′ k′
       → (p₂ ≡ ra (u - 1) .start) × (e₂ ≡ ra (u - 1) .end) → (q₂ ≡ rb (v - 1) .start) × (f₂ ≡ rb (v - 1) .end) → Above row′ u v t p₂ e₂ q₂ f₂ row₂ u′ v′ t′
       → Meeting ra n i u rb m j v most row k t → Meeting ra n i′ u′ rb m j′ v′ most row₂ k′ t′
-  meeting-turn {i} {i′} {u} {u′} {j} {j′} {v} {v′} {k} {k′} {t} {t′} {row = row} {row′ = row′} {row₂ = row₂} h a b s c d r z =
+  meeting-turn {c₀} {i} {i′} {u} {u′} {j} {j′} {v} {v′} {k} {k′} {t} {t′} {row = row} {row′ = row′} {row₂ = row₂} h g a b s c d r z =
       let w = below-few s in
       meeting-above i′ u u′ j′ v v′ k′ t t′ (u - 1) (v - 1) row′ row₂ (omega (arith, h .left)) (omega (arith, h .right)) (omega (arith, h .left, w .0)) (omega (arith, h .right, w .1)) (omega (arith, h .room, w .2))
       (above-read c d r) (meeting-below i i′ u j j′ v k k′ t row row′ (omega (arith, h .left)) (omega (arith, h .right)) (below-read a b s) z)

@@ -1,5 +1,6 @@
-// What every table shares: client numbers and clocks, the limits, the answers, and the zeroing of lent slices.
+// What every table shares: client numbers and clocks, the limits, the answers, the smaller of two counts, and the zeroing of lent slices.
 ghost use mathlib.Core.Path.{_≡_};
+ghost use Prim.Native.Nat.{min};
 ghost use lib.ListN.{length, replicate};
 
 // A client number: no clock can be passed for one.
@@ -31,6 +32,13 @@ pub enum Told {
 pub enum Counted {
     Is(usize),
     Refused(varint::Refusal),
+}
+
+// The smaller of two counts.
+pub fn lesser(x: usize, y: usize) -> usize
+    ensures { λ r. ⌜ r ≡ min x y ⌝ }
+{
+    if x < y { x } else { y }
 }
 
 // Every element becomes zero.

@@ -23,12 +23,6 @@ pub record Raised (x y t r : ℕ) : Type 0 where
   pub new : x < y → r ≡ t - 1
   pub old : y ≤ x → r ≡ t
 
--- both walks can go on by a row in each table, and there is room for both
-pub record Wide (i j k u v t : ℕ) : Type 0 where
-  pub left : i + 1 < u
-  pub right : j + 1 < v
-  pub room : k + 1 < t
-
 -- c turns of both walks fit: rows of both tables are left for all of them, and room
 pub record Turns (c i j k u v t : ℕ) : Type 0 where
   pub left : i + 2 * c ≤ u
