@@ -45,18 +45,13 @@ fn none_empty(starts: &[u32], ends: &[u32], n: usize) -> bool
     ok
 }
 
-// Whether row `next` starts past the end of row `i`. Most are of one client: the jump is foreseen, and clocks are read only behind it.
+// Whether row `next` starts past the end of row `i`. No jump: the pass over the rows becomes SIMD where the machine compares clients so.
 fn follows(clients: &[u64], starts: &[u32], ends: &[u32], i: usize, next: usize) -> bool
     requires { ⌜ (i < length (now clients)) × (next < length (now clients)) × (i < length (now ends)) × (next < length (now starts)) ⌝ }
     requires { ⌜ (getD (now ends) i 0 < 4294967296) × (getD (now starts) next 0 < 4294967296) ⌝ }
     ensures { λ r. ⌜ Says (numberOf (getD (now (clients .entry)) i 0) (getD (now (ends .entry)) i 0) < numberOf (getD (now (clients .entry)) next 0) (getD (now (starts .entry)) next 0)) r ⌝ }
 {
-    let c = clients[i];
-    let d = clients[next];
-    if c == d {
-        return ends[i] < starts[next];
-    }
-    c < d
+    past(clients[i], ends[i] as u64 + 1, clients[next], starts[next])
 }
 
 // Whether each of the first `n` rows starts past the end of the row before it.

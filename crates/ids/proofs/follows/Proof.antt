@@ -1,14 +1,15 @@
-use Rattle.tables.proofs.Testing.{less-says}
-use Rattle.ids.proofs.Checking.{same-says, other-says}
+-- The answer is that of `past`, of one more than the end. Assumes nothing.
+use native.Mathlib.Omega.{arith}
+use Rattle.ids.proofs.Checking.{behind-says}
 use borrow.Author.Needs.{needs}
 use Rattle.ids.proofs.follows.Statement.{statement}
 use Rattle.ids.proofs.follows.Tie as tie
 
-returns : tie.Need-returns
-returns c = same-says _ (c .before .before .if1 .taken) (less-says _ _)
+past-requires : tie.Need-past-requires
+past-requires c κs = let s : tie.Start = search in omega (arith, s .pre .1 .0)
 
-returns-2 : tie.Need-returns-2
-returns-2 c = other-says _ _ _ _ (c .if1 .left) (c .before .before .before .pre .1 .0) (c .before .before .before .pre .1 .1)
+returns : tie.Need-returns
+returns c = behind-says _ _ _ _ (c .past .ensures)
 
 pub follows-spec : {M : Type 1} → statement M
 follows-spec =
@@ -22,5 +23,7 @@ follows-spec =
     (λ c. search needs)
     (λ c. search needs)
     (λ c. search needs)
-    returns
-    returns-2)
+    (λ c. search needs)
+    (λ c. search needs)
+    past-requires
+    returns)
