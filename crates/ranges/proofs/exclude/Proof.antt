@@ -1,5 +1,8 @@
+use mathlib.Core.Path.{_∙_}
+use Rattle.tables.proofs.Saying.{gives-taken}
 use Rattle.tables.proofs.Sets.{difference-means}
-use Rattle.ranges.proofs.Writing.{refuses-both, both-asks, finished}
+use Rattle.ranges.proofs.Flat.{both-ruled}
+use Rattle.ranges.proofs.Writing.{filled-none, both-asks, finished}
 use borrow.Author.Needs.{needs}
 use Rattle.ranges.proofs.exclude.Statement.{statement}
 use Rattle.ranges.proofs.exclude.Tie as tie
@@ -8,7 +11,7 @@ returns : tie.Need-returns
 returns c =
     let z : tie.After-zero = search in
     let t : tie.Then1 = search in
-    refuses-both _ (t .before .both .ensures) (t .if1 .taken) (z .zero .ensures)
+    gives-taken both-ruled (t .before .both .ensures) (t .if1 .taken) (z .zero .ensures ∙ filled-none _)
 
 differ-requires : tie.Need-differ-requires
 differ-requires c κs =
