@@ -7,9 +7,6 @@ use borrow.Author.Needs.{needs}
 use Rattle.state_vector.proofs.merge.Statement.{statement}
 use Rattle.state_vector.proofs.merge.Tie as tie
 
-abbrev start : tie.After-most-rows → tie.Start
-start c = search
-
 pub merge-spec : {M : Type 1} → statement M
 merge-spec =
     tie.close
@@ -44,5 +41,6 @@ merge-spec =
     let r : tie.After-most-rows = search in
     let y : tie.Else2 = search in
     let x : tie.Else1 = search in
-    let a = start r .args in
-    gives-closed (two (a .to-clients .now) (a .to-clocks .now)) (r .most-rows .ensures) (says-left (x .before .well-formed .ensures) (x .if1 .left), says-left (y .before .well-formed2 .ensures) (y .if2 .left)) (m .merge-rows .ensures .right) (omega (arith, m .merge-rows .kept)) (omega (arith, m .merge-rows .kept)) (m .merge-rows .ensures .holds) (e .close .ensures)))
+    let k : tie.After-shared-slice-known4 = search in
+    let o = let s : tie.Start = search in two (s .args .to-clients .now) (s .args .to-clocks .now) in
+    gives-closed o (r .most-rows .ensures) (says-left (x .before .well-formed .ensures) (x .if1 .left), says-left (y .before .well-formed2 .ensures) (y .if2 .left)) (m .merge-rows .ensures .right) (omega (arith, m .merge-rows .kept)) (omega (arith, m .merge-rows .kept)) (m .merge-rows .ensures .holds) (e .close .ensures)))
