@@ -1,3 +1,4 @@
+-- Malformed; or a search of all rows says whether the id is held. Assumes nothing.
 use native.Mathlib.Omega.{arith}
 use Rattle.tables.proofs.Saying.{tells-taken}
 use Rattle.ids.proofs.Asking.{table-left, told-held, told-absent}

@@ -1,3 +1,4 @@
+-- Malformed; or the count is that of the rows, and 0 only if there is none. Assumes nothing.
 use mathlib.Core.Path.{refl}
 use Rattle.tables.specs.Answers.{says}
 use Rattle.tables.proofs.Saying.{says-yes, says-no, says-left, tells-taken}

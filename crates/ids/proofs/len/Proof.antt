@@ -1,3 +1,4 @@
+-- Malformed; or the clients of the rows are counted. Assumes nothing.
 use mathlib.Core.Path.{refl}
 use Rattle.tables.specs.Answers.{says}
 use Rattle.tables.proofs.Saying.{says-left, tells-taken}

@@ -1,3 +1,4 @@
+-- Each test that is taken breaks a part of `Wide`; where all are left, all parts hold. Assumes nothing.
 use native.Mathlib.Omega.{arith}
 use Rattle.tables.proofs.Saying.{says-yes, says-no}
 use borrow.Author.Needs.{needs}

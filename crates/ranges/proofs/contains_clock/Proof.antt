@@ -1,3 +1,4 @@
+-- Malformed; or no row ends past the clock; or the first that does starts past it too; or that row holds it. Assumes nothing.
 use mathlib.Core.Bool.{true, false}
 use native.Mathlib.Omega.{arith}
 use Rattle.tables.proofs.Saying.{says-left, tells-taken}

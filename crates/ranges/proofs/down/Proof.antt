@@ -1,3 +1,4 @@
+-- A step from above is one law over what the calls promise. Assumes nothing.
 use Rattle.tables.proofs.Meeting.{step-above}
 use borrow.Author.Needs.{needs}
 use Rattle.ranges.proofs.down.Statement.{statement}

@@ -1,3 +1,4 @@
+-- Malformed; or the rows are parted at the clock, and the first behind the parting is the answer, if there is one. Assumes nothing.
 use mathlib.Core.Option.{none, some}
 use native.Mathlib.Omega.{arith}
 use Rattle.tables.proofs.Saying.{says-left, tells-taken}

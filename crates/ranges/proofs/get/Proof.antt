@@ -1,3 +1,4 @@
+-- Malformed; or the index is past the rows; or the row there is read, since a table's rows fit the slice. Assumes nothing.
 use mathlib.Core.Path.{ap₂, _∙_}
 use mathlib.Core.Option.{none, some}
 use native.Mathlib.Omega.{arith}

@@ -1,3 +1,4 @@
+-- Malformed; or the count is that of the rows, and 0 only if there is none. Assumes nothing.
 use mathlib.Core.Bool.{true, false}
 use Rattle.tables.proofs.Saying.{tells-taken}
 use Rattle.ranges.proofs.Flat.{table-ruled}

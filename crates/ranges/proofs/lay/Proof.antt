@@ -1,3 +1,4 @@
+-- Where there is room, the row is stored and no other is changed; else none is. Assumes nothing.
 use mathlib.Core.Path.{refl, sym}
 use native.Mathlib.Omega.{arith}
 use lib.ListN.{length-set}

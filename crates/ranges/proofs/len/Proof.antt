@@ -1,3 +1,4 @@
+-- Malformed; or the count is that of the rows. Assumes nothing.
 use mathlib.Core.Path.{sym}
 use Rattle.tables.proofs.Saying.{tells-taken}
 use Rattle.ranges.proofs.Asking.{told}

@@ -1,4 +1,6 @@
+-- Malformed; or the rows of the union are laid out, and what is finished is its table. Assumes nothing.
 use mathlib.Core.Path.{_∙_}
+use native.Mathlib.Omega.{arith}
 use Rattle.tables.proofs.Saying.{gives-taken}
 use Rattle.tables.proofs.Sets.{union-means}
 use Rattle.ranges.proofs.Flat.{both-ruled}
@@ -23,7 +25,7 @@ returns-2 c =
     let f : tie.After-finish = search in
     let d : tie.After-unite = search in
     let r : tie.After-room = search in
-    finished union-means _ (d .unite .last .1 .1 .1 .1 .0) (r .before .before .both .ensures) (r .before .if1 .left) (r .room .ensures) (d .unite .kept .1 .1 .1 .1 .0) (d .unite .ensures) (f .finish .ensures)
+    finished union-means _ (d .unite .last .1 .1 .1 .1 .0) (r .before .before .both .ensures) (r .before .if1 .left) (r .room .ensures) (omega (arith, d .unite .kept)) (d .unite .ensures) (f .finish .ensures)
 
 pub merge-spec : {M : Type 1} → statement M
 merge-spec =
