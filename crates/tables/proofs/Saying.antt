@@ -39,10 +39,11 @@ says-left s e = s .right (not-false _ e)
 pub says-taken : {P : Type 0} {b : Bool} → Says P b → not b ≡ true → P → ⊥
 says-taken s e = s .wrong (not-true _ e)
 
--- and then an input table breaks its rules, if by its rules that would hold
+-- it was taken, and the rules of the input tables ask for what b says: the question is refused
 pub tells-taken : {A ok P : Type 0} {right : A → Type 0} {none : A} {b : Bool} → (ok → P) → Says P b → not b ≡ true → Tells ok right none (answer (noOf Malformed) none)
 tells-taken f s e = refuses (λ t. says-taken s e (f t)) refl
 
+-- and so is a routine that writes a table
 pub gives-taken : {T O ok P : Type 0} {right : List T → Type 0} {most : ℕ} {fill : List T → O} {out : O} {b : Bool} → (ok → P) → Says P b → not b ≡ true → out ≡ fill []
     → Gives ok right most fill out (answer (noOf Malformed) 0)
 gives-taken f s e z = malformed (λ t. says-taken s e (f t)) refl z

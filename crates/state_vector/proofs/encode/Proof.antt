@@ -1,4 +1,4 @@
--- `state_vector::encode` meets its contract. Assumes nothing.
+-- Malformed; or there is no room for the bytes; or they are put. Assumes nothing.
 use mathlib.Core.Path.{refl}
 use Rattle.state_vector.specs.Bytes.{writes, malformed}
 use Rattle.state_vector.proofs.Encoding.{full-there}

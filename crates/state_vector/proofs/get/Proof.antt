@@ -1,4 +1,4 @@
--- `state_vector::get` meets its contract. Assumes nothing.
+-- Malformed; or the clock that `clock_at` reads. Assumes nothing.
 use mathlib.Core.Path.{refl}
 use Rattle.tables.specs.Answers.{says}
 use Rattle.tables.proofs.Saying.{says-left, tells-taken}

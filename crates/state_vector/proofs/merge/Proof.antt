@@ -1,4 +1,4 @@
--- `state_vector::merge` meets its contract. Assumes nothing.
+-- Malformed, left or right; or the rows of both are merged, and what is closed is their vector. Assumes nothing.
 use native.Mathlib.Omega.{arith}
 use Rattle.state_vector.specs.Vectors.{two}
 use Rattle.state_vector.proofs.Storing.{gives-closed}

@@ -1,4 +1,4 @@
--- `state_vector::partial_cmp` meets its contract. Assumes nothing.
+-- Malformed, left or right; or the verdict of the rows. Assumes nothing.
 use Rattle.tables.specs.Answers.{says}
 use Rattle.tables.proofs.Saying.{says-left, tells-taken}
 use borrow.Author.Needs.{needs}

@@ -1,4 +1,4 @@
--- `state_vector::set_max` meets its contract. Assumes nothing.
+-- Malformed; or the larger of two clocks is set. Assumes nothing.
 use Rattle.tables.proofs.Saying.{says-left, gives-taken}
 use borrow.Author.Needs.{needs}
 use Rattle.state_vector.proofs.set_max.Statement.{statement}

@@ -1,4 +1,4 @@
--- `state_vector::set_min` meets its contract. Assumes nothing.
+-- Malformed; or the smaller of two clocks is set, for an absent client the given one. Assumes nothing.
 use Rattle.tables.proofs.Saying.{says-left, gives-taken}
 use borrow.Author.Needs.{needs}
 use Rattle.state_vector.proofs.set_min.Statement.{statement}

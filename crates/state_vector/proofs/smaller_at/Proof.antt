@@ -1,4 +1,4 @@
--- `state_vector::smaller_at` meets its contract. Assumes nothing.
+-- The row where the client's is found to belong is the client's, and the smaller clock is taken; or the client is absent, and it is the given one. Assumes nothing.
 use native.Mathlib.Omega.{arith}
 use Rattle.tables.proofs.Saying.{says-left, says-taken}
 use Rattle.state_vector.proofs.Spanning.{table-climbs}

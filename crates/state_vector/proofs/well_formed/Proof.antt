@@ -1,4 +1,4 @@
--- `state_vector::well_formed` meets its contract. Assumes nothing.
+-- The count is within the limit and both slices, or it is no vector; then it is one exactly if the clients rise. Assumes nothing.
 use native.Mathlib.Omega.{arith}
 use Rattle.tables.proofs.Saying.{says-no, says-as}
 use Rattle.state_vector.proofs.Spanning.{climbs-table, table-climbs}
