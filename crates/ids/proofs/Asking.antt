@@ -7,34 +7,17 @@ use Prim.Native.Nat.{ℕ, suc, _+_, _-_, _≤_, _<_}
 use native.Mathlib.Omega.{arith}
 use native.Mathlib.Decide.{ℕ-discrete}
 use lib.ListN.{length, getD}
-use borrow.Author.Tests.{not-true, not-false}
-use Rattle.varint.specs.declared.Refusal.the-variants.{Malformed}
-use Rattle.tables.specs.Answers.{Tells, says, refuses, Says, saidTold, saidCounted}
+use borrow.Author.Tests.{not-false}
+use Rattle.tables.specs.Answers.{says, Says}
 use Rattle.tables.specs.Clients.{Among}
 use Rattle.tables.specs.Inner.Rows.{at, span}
 use Rattle.tables.specs.declared.Told.the-variants as told
-use Rattle.tables.specs.declared.Counted.the-variants as counted
-use Rattle.tables.proofs.Saying.{says-yes, says-no}
+use Rattle.tables.proofs.Saying.{says-yes, says-no, says-left}
 use Rattle.ids.specs.Rows.{Row, Holds}
-use Rattle.ids.specs.Tables.{held, rowsOf, Table, Contains, In, Rising, Clients}
+use Rattle.ids.specs.Tables.{held, rowsOf, Contains, In, Rising, Clients}
 use Rattle.ids.specs.Inner.{numberOf, idRow, IdTable, Checked, Fresh}
 use Rattle.ids.proofs.Numbering.{idAt, fit, rows-span, length-rows, Narrow, rises}
 use Rattle.ids.proofs.Reading.{holds-placed}
-
-pub told-malformed : {ok : Type 0} {right : Bool → Type 0} → (ok → ⊥) → Tells ok right false (saidTold (told.Refused Malformed))
-told-malformed n = refuses n refl
-
-pub told-yes : {ok P : Type 0} → ok → P → Tells ok (Says P) false (saidTold told.Yes)
-told-yes p h = says p refl (says-yes h)
-
-pub told-no : {ok P : Type 0} → ok → (P → ⊥) → Tells ok (Says P) false (saidTold told.No)
-told-no p h = says p refl (says-no h)
-
-pub counted-malformed : {ok : Type 0} {right : ℕ → Type 0} → (ok → ⊥) → Tells ok right 0 (saidCounted (counted.Refused Malformed))
-counted-malformed n = refuses n refl
-
-pub counted-is : {ok : Type 0} {right : ℕ → Type 0} (n : ℕ) → ok → right n → Tells ok right 0 (saidCounted (counted.Is n))
-counted-is n p h = says p refl h
 
 module _ (cs ss es : List ℕ) (f : Narrow ss) (g : Narrow es) (n : ℕ) (t : IdTable cs ss es n) where
   -- what a search of all rows says of an id
@@ -45,16 +28,17 @@ module _ (cs ss es : List ℕ) (f : Narrow ss) (g : Narrow es) (n : ℕ) (t : Id
   holds-found c k h = subst (λ (v : ℕ). 0 < at (span (idRow cs ss es) 0 v) (numberOf c k)) (let z : n ≡ n - 0 = omega arith in z) (holds-placed cs ss es f g n t c k .0 h .1)
 
 -- the answers of a membership, by what was checked and what a search of all rows said
-module _ {cs ss es : List ℕ} {n : ℕ} {ok : Bool} (t : Checked cs ss es n ok) where
-  pub told-refused : {right : Bool → Type 0} → not ok ≡ true → Tells (Table (held cs ss es n)) right false (saidTold (told.Refused Malformed))
-  told-refused e = told-malformed (t .says .wrong (not-true _ e))
+module _ {cs ss es : List ℕ} {n : ℕ} {ok : Bool} (t : Checked cs ss es n ok) (e : not ok ≡ false) where
+  -- the test `if !well_formed(..)` was left
+  pub table-left : IdTable cs ss es n
+  table-left = t .table (not-false _ e)
 
-  module _ (e : not ok ≡ false) (f : Narrow ss) (g : Narrow es) (c k : ℕ) {r : Bool} (w : Says (0 < at (span (idRow cs ss es) 0 (n - 0)) (numberOf c k)) r) where
+  module _ (f : Narrow ss) (g : Narrow es) (c k : ℕ) {r : Bool} (w : Says (0 < at (span (idRow cs ss es) 0 (n - 0)) (numberOf c k)) r) where
     pub told-held : k < 4294967296 → r ≡ true → Contains (held cs ss es n) c k told.Yes
-    told-held h p = told-yes (t .says .right (not-false _ e)) (found-holds cs ss es f g n (t .table (not-false _ e)) c k h (w .right p))
+    told-held h p = says (says-left (t .says) e) refl (says-yes (found-holds cs ss es f g n table-left c k h (w .right p)))
 
     pub told-absent : r ≡ false → Contains (held cs ss es n) c k told.No
-    told-absent p = told-no (t .says .right (not-false _ e)) (λ h. w .wrong p (holds-found cs ss es f g n (t .table (not-false _ e)) c k h))
+    told-absent p = says (says-left (t .says) e) refl (says-no (λ h. w .wrong p (holds-found cs ss es f g n table-left c k h)))
 
 pub no-rows : (cs ss es : List ℕ) (n : ℕ) → n ≡ 0 → rowsOf n cs ss es ≡ []
 no-rows cs ss es n e = ap (λ (v : ℕ). rowsOf v cs ss es) e

@@ -15,11 +15,12 @@ use Rattle.ids.specs.Tables.{Slices, Held, most, rows, Table, Inserted, 
 pub record Below (a b : Held) : Type 0 where
   pub alike : Alike (a .count ≤ most (a .slices)) (b .count ≤ most (b .slices)) (rows a) (rows b)
 
-formed : (h : Held) → ((h .count ≤ most (h .slices)) × Joined (rows h)) ↔ Table h
-formed h = (λ p. record { few = p .0; joined = p .1 }, λ t. (t .few, t .joined))
+-- the rules of a table: its count fits, and its rows keep theirs
+table-rules : (h : Held) → ((h .count ≤ most (h .slices)) × Joined (rows h)) ↔ Table h
+table-rules h = (λ p. record { few = p .0; joined = p .1 }, λ t. (t .few, t .joined))
 
 one : {a b : Held} → Below a b → Alike (Table a) (Table b) (rows a) (rows b)
-one {a} {b} s = alike-rule Joined (formed a) (formed b) (s .alike)
+one {a} {b} s = alike-rule Joined (table-rules a) (table-rules b) (s .alike)
 
 module _ {a a′ : Held} (s : Below a a′) where
   pub contains-below : (c k : ℕ) (r : Told) → Contains a c k r ↔ Contains a′ c k r

@@ -7,12 +7,12 @@ use native.Mathlib.Omega.{arith}
 use lib.Dec.{leb, ltb, eqb}
 use borrow.Author.Tests.{leb-true, leb-false, ltb-true, ltb-false, eqb-true, eqb-false}
 use Rattle.tables.specs.Answers.{Says}
-use Rattle.tables.proofs.Saying.{says-yes, says-no, says-both}
+use Rattle.tables.proofs.Saying.{says-yes, says-no, says-as, says-both}
 use Rattle.ids.specs.Inner.{numberOf, Checked, Both, Picked, Further}
 
 -- the order of ids is that of their places: within a client, and between two
 pub same-says : {c d x y : ℕ} (t : Bool) → c ≡ d → Says (x < y) t → Says (numberOf c x < numberOf d y) t
-same-says t e s = record { right = λ h. omega (arith, s .right h); wrong = λ h l. s .wrong h (omega arith) }
+same-says t e s = says-as (λ l. omega arith) (λ l. omega arith) s
 
 pub other-says : (c x d y : ℕ) → (c ≡ d → ⊥) → x < 2 ^ 32 → y < 2 ^ 32 → Says (numberOf c x < numberOf d y) (ltb c d)
 other-says c x d y n h g = record { right = λ e. omega (arith, ltb-true c d e); wrong = λ e l. omega (arith, ltb-false c d e) }

@@ -1,7 +1,7 @@
 -- Rows by their index, and ids as places: the rule of an id table is the rule of joined rows. Assumes nothing.
 use mathlib.Core.Logic.{inl, inr, ⊎-elim}
 use mathlib.Core.Path.{_≡_, refl, ap, sym, subst, _∙_}
-use mathlib.Core.Bool.{Bool, true, false, _&&_, true≢false, false≢true}
+use mathlib.Core.Bool.{Bool, false, _&&_, false≢true}
 use mathlib.Core.List.{List, [], _∷_, _++_}
 use Prim.Native.Nat.{ℕ, zero, suc, _+_, _-_, _≤_, _<_}
 use native.Mathlib.Omega.{arith}
@@ -13,6 +13,7 @@ use Rattle.tables.specs.Answers.{Says}
 use Rattle.tables.specs.Inner.Rows as inner
 use Rattle.tables.specs.Inner.Rows.{span}
 use Rattle.varint.proofs.Cases.{split}
+use Rattle.tables.proofs.Saying.{says-no, says-as, says-both}
 use Rattle.tables.proofs.Spanning.{Links, spanned, length-span, span-on, padded-column}
 use Rattle.ids.specs.Rows.{Row, row, Before, Joined}
 use Rattle.ids.specs.Tables.{three, held, most, room, rowsOf, filled, Table}
@@ -120,17 +121,17 @@ module _ (cs ss es : List ℕ) (f : Narrow ss) (g : Narrow es) where
 
   -- what the check of a table says
   pub checked : (n : ℕ) (p q : Bool) → n ≤ most (three cs ss es) → Says ((j : ℕ) → j < n → NoneEmpty ss es j) p → Says ((j : ℕ) → j + 1 < n → Apart cs ss es j) q → Checked cs ss es n (p && q)
-  checked n true true h a b =
-      let t : IdTable cs ss es n = record { few = h; filled = a .right refl; apart = b .right refl } in
-      record { says = record { right = λ _. table-up n t; wrong = λ e _. absurd (true≢false e) }; table = λ _. t }
-  checked n true false h a b =
-      record { says = record { right = λ e. absurd (false≢true e); wrong = λ _ t. b .wrong refl (table-down n t .apart) }; table = λ e. absurd (false≢true e) }
-  checked n false q h a b =
-      record { says = record { right = λ e. absurd (false≢true e); wrong = λ _ t. a .wrong refl (table-down n t .filled) }; table = λ e. absurd (false≢true e) }
+  checked n p q h a b =
+      record {
+        says = says-as (λ r. table-up n (ruled r)) (λ t. let r = table-down n t in (r .filled, r .apart)) (says-both p q a b);
+        table = λ e. ruled (says-both p q a b .right e);
+      }
+    where
+      ruled : ((j : ℕ) → j < n → NoneEmpty ss es j) × ((j : ℕ) → j + 1 < n → Apart cs ss es j) → IdTable cs ss es n
+      ruled r = record { few = h; filled = r .0; apart = r .1 }
 
 pub unchecked : (cs ss es : List ℕ) (n : ℕ) → most (three cs ss es) < n → Checked cs ss es n false
-unchecked cs ss es n h =
-    record { says = record { right = λ e. absurd (false≢true e); wrong = λ _ t. omega (arith, t .few) }; table = λ e. absurd (false≢true e) }
+unchecked cs ss es n h = record { says = says-no (λ t. omega (arith, t .few)); table = λ e. absurd (false≢true e) }
 
 -- ## The rows of an id table are joined
 

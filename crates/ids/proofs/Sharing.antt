@@ -12,7 +12,7 @@ use Rattle.tables.specs.Inner.Unite.{Passed}
 use Rattle.tables.specs.Inner.Differ.{GapStart, GapEnd}
 use Rattle.varint.proofs.Cases.{split}
 use Rattle.tables.proofs.Joining.{row-is}
-use Rattle.tables.proofs.Saying.{says-both}
+use Rattle.tables.proofs.Saying.{says-as, says-both}
 use Rattle.tables.proofs.Crossing.{Crossing}
 use Rattle.tables.proofs.Differing.{Differing, gap-left}
 use Rattle.tables.proofs.Laying.{Lays, crossed-lays, differed-lays}
@@ -25,9 +25,6 @@ use Rattle.ids.proofs.Checking.{same-says}
 use Rattle.ids.proofs.Numbering.{Narrow, Wide, links}
 
 -- ## What a row shares
-
-says-as : {P Q : Type 0} {t : Bool} → (P → Q) → (Q → P) → Says P t → Says Q t
-says-as to from s = record { right = λ e. to (s .right e); wrong = λ e q. s .wrong e (from q) }
 
 passed-by : (p q y i r : ℕ) (t : Bool) → y ≡ min p q → Says (q < p) t → Picked t i (i + 1) r → Passed p y i r
 passed-by p q y i r true e s k = record { on = λ h. absurd (omega (arith, s .right refl)); off = λ _. k .yes′ refl }

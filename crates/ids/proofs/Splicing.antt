@@ -13,6 +13,7 @@ use Rattle.tables.specs.Inner.Rows.{span, combined}
 use Rattle.tables.specs.Inner.Sweep.{Holds}
 use Rattle.tables.specs.Inner.Edit.{Plain, Parted, starts, ends, Starting, Ending}
 use Rattle.varint.proofs.Cases.{split}
+use Rattle.tables.proofs.Saying.{says-as}
 use Rattle.tables.proofs.Joining.{piece, row-is}
 use Rattle.tables.proofs.Copying.{Copied}
 use Rattle.tables.proofs.Spanning.{length-span, span-same}
@@ -158,7 +159,7 @@ one-narrow s h (suc j) = omega arith
 pub both-one : {cs ss es : List ℕ} {n : ℕ} (ok : Bool) (c s e : ℕ) → s < e → Checked cs ss es n ok → Both cs ss es n (c ∷ []) (s ∷ []) (e ∷ []) 1 ok
 both-one ok c s e h t =
     record {
-      says = record { right = λ p. (t .says .right p, record { few = lit≤ tt; joined = (h, tt, tt) }); wrong = λ p q. t .says .wrong p (q .0) };
+      says = says-as (λ p. (p, record { few = lit≤ tt; joined = (h, tt, tt) })) (λ p. p .0) (t .says);
       one = t .table;
       two = λ _. record { few = lit≤ tt; filled = λ j l. subst (λ (v : ℕ). getD (s ∷ []) v 0 < getD (e ∷ []) v 0) (let z : 0 ≡ j = omega arith in z) h; apart = λ j l. absurd (omega arith) };
     }

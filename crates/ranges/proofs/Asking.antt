@@ -6,35 +6,24 @@ use mathlib.Core.List.{List, [], _∷_, map}
 use mathlib.Core.Option.{none, some, Option·map}
 use Prim.Native.Nat.{ℕ, zero, suc, _+_, _-_, _/_, _≤_, _<_}
 use native.Mathlib.Omega.{arith}
-use borrow.Author.Tests.{lt-ltb, le-ltb, not-true, not-false}
+use borrow.Author.Tests.{lt-ltb, le-ltb}
 use lib.ListN.{length}
-use Rattle.varint.specs.Answer.{noOf}
-use Rattle.varint.specs.declared.Refusal.the-variants.{Malformed}
-use Rattle.tables.specs.Answers.{answer, Says, Tells, says, refuses}
+use Rattle.tables.specs.Answers.{answer, Says, Tells, says}
 use Rattle.tables.specs.Inner.Rows as inner
 use Rattle.tables.specs.Inner.Rows.{at, span}
 use Rattle.tables.specs.Inner.Edit.{Parted, ends}
 use Rattle.varint.proofs.Cases.{split}
-use Rattle.tables.proofs.Saying.{says-yes, says-no}
+use Rattle.tables.proofs.Saying.{says-yes, says-no, says-left}
 use Rattle.tables.proofs.Finding.{ends-rise, look-right, look-left, look-at, look-empty}
 use Rattle.ranges.specs.Rows.{Holds, findStart, clockStart, clockEnd, get}
 use Rattle.ranges.specs.Tables.{rows, Table}
 use Rattle.ranges.specs.Inner.{rowAt, bare, Ruled}
 use Rattle.ranges.proofs.Plain.{plain, holds-plain}
-use Rattle.ranges.proofs.Flat.{rows-plain, length-rows, two-on, ruled-links, ruled-table, table-ruled}
+use Rattle.ranges.proofs.Flat.{rows-plain, length-rows, two-on, ruled-links, ruled-table}
 
--- ## After a test `if !well_formed(..)`
-
--- it was left
-pub formed : {P : Type 0} {b : Bool} → Says P b → not b ≡ false → P
-formed s e = s .right (not-false _ e)
-
+-- the answer v, after a test `if !well_formed(..)` that was left
 pub told : {A : Type 0} {right : A → Type 0} {none : A} {l : List ℕ} {n : ℕ} {b : Bool} → Says (Ruled l n) b → not b ≡ false → (v : A) → (Ruled l n → right v) → Tells (Table l n) right none (answer 0 v)
-told s e v r = let t = formed s e in says (ruled-table t) refl (r t)
-
--- it was taken
-pub refused : {A : Type 0} {right : A → Type 0} {none : A} {l : List ℕ} {n : ℕ} {b : Bool} → Says (Ruled l n) b → not b ≡ true → Tells (Table l n) right none (answer (noOf Malformed) none)
-refused s e = refuses (λ t. s .wrong (not-true _ e) (table-ruled t)) refl
+told s e v r = let t = says-left s e in says (ruled-table t) refl (r t)
 
 -- ## The row at an index
 

@@ -24,12 +24,13 @@ pub record Below (l l′ : List ℕ) (n : ℕ) : Type 0 where
 back : {l l′ : List ℕ} {n : ℕ} → Below l l′ n → Below l′ l n
 back b = record { alike = alike-back (b .alike) }
 
-formed : (l : List ℕ) (n : ℕ) → ((n ≤ most (length l)) × Joined (rows l n)) ↔ Table l n
-formed l n = (λ p. record { few = p .0; joined = p .1 }, λ t. (t .few, t .joined))
+-- the rules of a table: its count fits, and its rows keep theirs
+table-rules : (l : List ℕ) (n : ℕ) → ((n ≤ most (length l)) × Joined (rows l n)) ↔ Table l n
+table-rules l n = (λ p. record { few = p .0; joined = p .1 }, λ t. (t .few, t .joined))
 
 one : {l l′ : List ℕ} {n : ℕ} → Below l l′ n → Alike (Table l n) (Table l′ n) (rows l n) (rows l′ n)
 one {l} {l′} {n} b =
-    alike-rule Joined (formed l n) (formed l′ n) (record { rules = (λ h. omega (arith, b .alike .rules .0 (omega arith)), λ h. omega (arith, b .alike .rules .1 (omega arith))); same = b .alike .same })
+    alike-rule Joined (table-rules l n) (table-rules l′ n) (record { rules = (λ h. omega (arith, b .alike .rules .0 (omega arith)), λ h. omega (arith, b .alike .rules .1 (omega arith))); same = b .alike .same })
 
 -- ## Each routine
 

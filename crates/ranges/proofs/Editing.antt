@@ -1,29 +1,26 @@
 -- A table and one range: what was written is the table of the union or the difference. Assumes nothing.
 use mathlib.Core.Path.{_≡_, refl, ap, ap₂, subst, _∙_}
-use mathlib.Core.Bool.{Bool, true, false, not}
+use mathlib.Core.Bool.{Bool, false, not}
 use mathlib.Core.List.{List, [], _∷_, _++_, map, append-nil}
 use Prim.Native.Nat.{ℕ, _+_, _-_, _*_, _/_, _≤_, _<_, min, max}
 use native.Mathlib.Omega.{arith}
-use borrow.Author.Tests.{not-true}
-use lib.ListN.{length, replicate}
-use Rattle.varint.specs.declared.Refusal.the-variants.{Malformed}
+use lib.ListN.{length}
 use Rattle.tables.specs.Answers.{Says}
 use Rattle.tables.specs.declared.Made.{Made}
-use Rattle.tables.specs.declared.Made.the-variants as made
 use Rattle.tables.specs.Inner.Rows as inner
 use Rattle.tables.specs.Inner.Rows.{combined, span}
 use Rattle.tables.specs.Inner.Edit.{Plain, range, Parted, starts, ends, Starting, Ending}
+use Rattle.tables.proofs.Saying.{says-left}
 use Rattle.tables.proofs.Sets.{Means, union-means, difference-means}
 use Rattle.tables.proofs.Spanning.{span-none}
 use Rattle.tables.proofs.Inserting.{inserted, removed, unchanged, and-none, combined-same, range-row, parted-from, union-keeps, difference-keeps}
 use Rattle.ranges.specs.Rows as reader
-use Rattle.ranges.specs.Rows.{Row, row, TableOf}
+use Rattle.ranges.specs.Rows.{row, TableOf}
 use Rattle.ranges.specs.Tables.{rows, Table, Writes, Inserted, Removed}
 use Rattle.ranges.specs.Inner.{rowAt, rowsOf, bare, Ruled, Wrote}
 use Rattle.ranges.proofs.Plain.{plain, combined-right}
-use Rattle.ranges.proofs.Flat.{rows-plain, ruled-table, table-ruled}
-use Rattle.ranges.proofs.Asking.{formed}
-use Rattle.ranges.proofs.Writing.{gives, refuses}
+use Rattle.ranges.proofs.Flat.{rows-plain, ruled-table}
+use Rattle.ranges.proofs.Writing.{gives}
 
 pub ruled-plain : {l : List ℕ} {n : ℕ} → Ruled l n → Plain (rowAt l) n
 ruled-plain t = record { unit = λ _. refl; ruled = t .ruled }
@@ -42,17 +39,11 @@ gives-edited : {f : ℕ → ℕ → ℕ} {P : Type 0 → Type 0 → Type 0} {l :
 gives-edited {l = l} {n = n} {len = len} {out = out} {r = r} s e m p q w =
     gives _ (ruled-table p) (edited m l n s e (p .fits)) (subst (λ (t : inner.Rows). Wrote t len out r) q w)
 
--- ## After a test `if !well_formed(..)`
+-- ## After a test `if !well_formed(..)` that was left
 
--- it was taken
-pub refuses-one : {l : List ℕ} {n : ℕ} {right : List Row → Type 0} (len : ℕ) {out : List ℕ} {ok : Bool} → Says (Ruled l n) ok → not ok ≡ true → out ≡ replicate len 0
-    → Writes (Table l n) right len out (made.Refused Malformed)
-refuses-one len s h z = refuses len (λ t. s .wrong (not-true _ h) (table-ruled t)) z
-
--- it was left
 module _ {l : List ℕ} {n : ℕ} {ok : Bool} (t : Says (Ruled l n) ok) (g : not ok ≡ false) where
   abbrev ruled : Ruled l n
-  ruled = formed t g
+  ruled = says-left t g
 
   -- what `splice` asks, and what `starts_below` asks behind the rows that end below lo
   pub splice-asks : {i j : ℕ} → i ≤ j → j ≤ n → (2 * n ≤ length l) × ((i ≤ j) × (j ≤ n))

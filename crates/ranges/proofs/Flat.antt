@@ -73,3 +73,6 @@ table-ruled {l} {n} t = record { few = omega (arith, t .few); fits = fits; ruled
     rule i h =
         let f = joined-follows 0 0 (rowAt l) 0 n (λ _. refl) (subst (λ (rs : inner.Rows). inner.Joined rs) (rows-plain l n fits) (plain-joined (rows l n) (t .joined))) i (omega arith) (omega arith) in
         record { filled = f .0; apart = f .1 }
+
+pub both-ruled : {a b : List ℕ} {n m : ℕ} → Table a n × Table b m → Ruled a n × Ruled b m
+both-ruled t = (table-ruled (t .0), table-ruled (t .1))

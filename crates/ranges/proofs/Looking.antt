@@ -10,6 +10,7 @@ use Rattle.tables.specs.Limits.{rowLimit}
 use Rattle.tables.specs.Answers.{Says}
 use Rattle.tables.specs.Inner.Climb.{Climbs}
 use Rattle.varint.proofs.Cases.{split}
+use Rattle.tables.proofs.Saying.{says-as}
 use Rattle.tables.proofs.Climbing.{less-at}
 use Rattle.ranges.specs.Inner.{Ruled}
 
@@ -33,4 +34,4 @@ climbs-ruled {l} few fits c =
     }
 
 pub says-ruled : {l : List ℕ} {n : ℕ} {ok : Bool} → n ≤ rowLimit → n ≤ length l / 2 → Says (Climbs l (2 * n)) ok → Says (Ruled l n) ok
-says-ruled few fits s = record { right = λ e. climbs-ruled few fits (s .right e); wrong = λ e t. s .wrong e (ruled-climbs t) }
+says-ruled few fits s = says-as (climbs-ruled few fits) ruled-climbs s

@@ -2,19 +2,19 @@
 use mathlib.Core.Logic.{⊎-elim}
 use mathlib.Core.Path.{_≡_, refl, ap, ap₂, sym, subst, subst₂, _∙_}
 use mathlib.Core.List.{List, [], _++_, map}
-use mathlib.Core.Bool.{Bool, true, false, not}
+use mathlib.Core.Bool.{Bool, false, not}
 use Prim.Native.Nat.{ℕ, _-_, _*_, _≤_, _<_}
 use native.Mathlib.Omega.{arith}
-use borrow.Author.Tests.{not-true}
 use lib.ListN.{length, take, replicate, length-map, length-append, length-replicate}
-use Rattle.varint.specs.declared.Refusal.the-variants.{Full, Malformed}
-use Rattle.tables.specs.Answers.{done, full, malformed, Says, saidMade}
+use Rattle.varint.specs.declared.Refusal.the-variants.{Full}
+use Rattle.tables.specs.Answers.{done, full, Says, saidMade}
 use Rattle.tables.specs.declared.Made.{Made}
 use Rattle.tables.specs.declared.Made.the-variants as made
 use Rattle.tables.specs.Inner.Rows as inner
 use Rattle.tables.specs.Inner.Rows.{combined}
 use Rattle.tables.specs.Inner.Sweep.{Holds}
 use Rattle.varint.proofs.Cases.{split}
+use Rattle.tables.proofs.Saying.{says-left}
 use Rattle.tables.proofs.Spanning.{length-span}
 use Rattle.tables.proofs.Pushing.{holds-room}
 use Rattle.tables.proofs.Sets.{Means}
@@ -23,8 +23,7 @@ use Rattle.ranges.specs.Rows.{Row, TableOf}
 use Rattle.ranges.specs.Tables.{rows, most, Table, flat, filled, Writes}
 use Rattle.ranges.specs.Inner.{rowAt, rowsOf, bare, Ruled, Wrote}
 use Rattle.ranges.proofs.Plain.{plain, bare-plain, combined-right}
-use Rattle.ranges.proofs.Asking.{formed}
-use Rattle.ranges.proofs.Flat.{rows-plain, flat-rows, ruled-table, table-ruled, read-flat, length-flat}
+use Rattle.ranges.proofs.Flat.{rows-plain, flat-rows, ruled-table, read-flat, length-flat}
 
 pub filled-none : (len : ℕ) → replicate len 0 ≡ filled len []
 unfolding flat
@@ -57,9 +56,6 @@ wrote-length {rs} {len} {len′} {out} {r} e w = subst (λ (n : ℕ). Wrote rs n
 
 -- ## The promise
 
-pub refuses : {ok : Type 0} {right : List Row → Type 0} (len : ℕ) {out : List ℕ} → (ok → ⊥) → out ≡ replicate len 0 → Writes ok right len out (made.Refused Malformed)
-refuses len h e = malformed h refl (e ∙ filled-none len)
-
 -- rows that are the right result, written
 pub gives : {ok : Type 0} {right : List Row → Type 0} {len : ℕ} {out : List ℕ} {r : Made} (rs : inner.Rows)
     → ok → right (map bare rs) → Wrote rs len out r → Writes ok right len out r
@@ -87,17 +83,13 @@ written len t j h =
       e,
     )
 
--- ## A routine over two tables, after a test `if !both(..)`
-
-pub refuses-both : {a b : List ℕ} {n m : ℕ} {right : List Row → Type 0} (len : ℕ) {out : List ℕ} {ok : Bool} → Says (Ruled a n × Ruled b m) ok → not ok ≡ true
-    → out ≡ replicate len 0 → Writes (Table a n × Table b m) right len out (made.Refused Malformed)
-refuses-both len s h e = refuses len (λ t. s .wrong (not-true _ h) (table-ruled (t .0), table-ruled (t .1))) e
+-- ## A routine over two tables, after a test `if !both(..)` that was left
 
 pub both-asks : {a b : List ℕ} {n m room : ℕ} {ok : Bool} (len : ℕ) → Says (Ruled a n × Ruled b m) ok → not ok ≡ false → room ≡ most len → Ruled a n × (Ruled b m × (2 * room ≤ len))
-both-asks len s h e = let p = formed s h in (p .0, (p .1, omega arith))
+both-asks len s h e = let p = says-left s h in (p .0, (p .1, omega arith))
 
 pub finished : {f : ℕ → ℕ → ℕ} {P : Type 0 → Type 0 → Type 0} {a b : List ℕ} {n m : ℕ} {out : List ℕ} {room k : ℕ} {r : Made} {ok : Bool} → Means f P → (len : ℕ) (l : List ℕ)
     → Says (Ruled a n × Ruled b m) ok → not ok ≡ false → room ≡ most len → length l ≡ len → Holds room (rowAt l) k (combined f (rowsOf a n) (rowsOf b m))
     → ((rs : inner.Rows) → Holds (most (length l)) (rowAt l) k rs → Wrote rs (length l) out r)
     → Writes (Table a n × Table b m) (TableOf (λ x. P (reader.Holds (rows a n) x) (reader.Holds (rows b m) x))) len out r
-finished s len l q d e g h w = let p = formed q d in gives-combined s (p .0) (p .1) (wrote-length g (w _ (holds-room (e ∙ ap most (sym g)) h)))
+finished s len l q d e g h w = let p = says-left q d in gives-combined s (p .0) (p .1) (wrote-length g (w _ (holds-room (e ∙ ap most (sym g)) h)))

@@ -19,11 +19,12 @@ use Rattle.state_vector.specs.declared.Order.{Order}
 pub record Below (a b : Held) : Type 0 where
   pub alike : Alike (a .count ≤ most (a .slices)) (b .count ≤ most (b .slices)) (rows a) (rows b)
 
-formed : (h : Held) → ((h .count ≤ most (h .slices)) × Rising (rows h)) ↔ Table h
-formed h = (λ p. record { few = p .0; rising = p .1 }, λ t. (t .few, t .rising))
+-- the rules of a table: its count fits, and its rows keep theirs
+table-rules : (h : Held) → ((h .count ≤ most (h .slices)) × Rising (rows h)) ↔ Table h
+table-rules h = (λ p. record { few = p .0; rising = p .1 }, λ t. (t .few, t .rising))
 
 one : {a b : Held} → Below a b → Alike (Table a) (Table b) (rows a) (rows b)
-one {a} {b} s = alike-rule Rising (formed a) (formed b) (s .alike)
+one {a} {b} s = alike-rule Rising (table-rules a) (table-rules b) (s .alike)
 
 -- ## Each routine that reads a vector
 

@@ -5,10 +5,9 @@ use Prim.Native.Nat.{ℕ, _+_, _-_, _≤_, _<_}
 use native.Mathlib.Omega.{arith}
 use lib.ListN.{length, take, set, replicate, length-append}
 use lib.Seq.{getD-set-same, getD-set-other}
-use Rattle.tables.specs.Answers.{padded, done, full, malformed}
+use Rattle.tables.specs.Answers.{padded, done, full}
 use Rattle.tables.specs.declared.Made.{Made}
 use Rattle.tables.specs.declared.Made.the-variants as made
-use Rattle.varint.specs.declared.Refusal.the-variants.{Malformed}
 use Rattle.tables.specs.Answers.{saidMade}
 use Rattle.state_vector.specs.Rows.{Row, row}
 use Rattle.state_vector.specs.Vectors.{Slices, two, room, most, filled, Writes}
@@ -107,9 +106,6 @@ filled-same t o o₀ p q = two-of (ap (λ (n : ℕ). padded n (map (λ (r : Row)
 -- ## The answers
 
 module _ {ok : Type 0} {right : List Row → Type 0} (o₀ : Slices) {out : Slices} where
-  pub refused : (ok → ⊥) → out ≡ filled o₀ [] → Writes ok right o₀ out (made.Refused Malformed)
-  refused n e = malformed n refl e
-
   pub gives-closed : {o : Slices} {m k : ℕ} {r : Made} {t : List Row} → m ≡ most o₀ → ok → right t
       → length (o .clients) ≡ length (o₀ .clients) → length (o .clocks) ≡ length (o₀ .clocks) → Holds m o k t → Closes m k o out r → Writes ok right o₀ out r
   gives-closed {o = o} {k = k} {t = t} em a b p q h (fits l e f) =

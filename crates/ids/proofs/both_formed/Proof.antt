@@ -1,3 +1,4 @@
+-- Two checks, said as one. Assumes nothing.
 use Rattle.ids.proofs.Checking.{checked-both}
 use borrow.Author.Needs.{needs}
 use Rattle.ids.proofs.both_formed.Statement.{statement}

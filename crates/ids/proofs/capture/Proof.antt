@@ -12,9 +12,6 @@ copy-rows-requires c κs =
     let t = checked-walked (p .before .well-formed .ensures) (p .pick-place .ensures) in
     (omega (arith, t .few), search needs)
 
-abbrev start : tie.After-shared-slice-known3 → tie.Start
-start c = search
-
 returns : tie.Need-returns
 returns c =
     let f : tie.After-finish = search in
@@ -22,8 +19,8 @@ returns c =
     let u : tie.After-copy-rows = search in
     let m : tie.After-most-rows = search in
     let k : tie.After-shared-slice-known3 = search in
-    let a = start k .args in
-    captured-of {o = three (a .to-clients .now) (a .to-starts .now) (a .to-ends .now)} (f .finish .ensures) (u .copy-rows .ensures) (m .most-rows .ensures) (omega (arith, u .copy-rows .kept)) (search)
+    let o = let s : tie.Start = search in three (s .args .to-clients .now) (s .args .to-starts .now) (s .args .to-ends .now) in
+    captured-of {o = o} (f .finish .ensures) (u .copy-rows .ensures) (m .most-rows .ensures) (omega (arith, u .copy-rows .kept)) (search)
 
 pub capture-spec : {M : Type 1} → statement M
 capture-spec =

@@ -1,3 +1,4 @@
+-- Without room nothing is copied and the count says so; else each column is, and so the rows are. Assumes nothing.
 use native.Mathlib.Omega.{arith}
 use Rattle.ids.proofs.Splicing.{copied-rows, copied-over}
 use borrow.Author.Needs.{needs}

@@ -1,3 +1,4 @@
+-- A row that starts past the last one is one more, and any other is not. Assumes nothing.
 use native.Mathlib.Omega.{arith}
 use mathlib.Core.Path.{refl}
 use borrow.Author.Needs.{needs}

@@ -62,15 +62,14 @@ loop-less c =
     let at-in-loop : tie.In-loop Inv-loop μ-loop = search in
     less-left _ _ _ _ _ _ (at-in-loop .before .loop .inv .3 .crossed .one .reached .within) (at-in-loop .before .loop .inv .3 .crossed .two .reached .within) (at-in-loop .loop-test .taken) (moves _ _ _ _ _ _ _ refl (at-share .share .ensures .one) (at-share .share .ensures .two))
 
-abbrev start : tie.Else1 Inv-loop μ-loop → tie.Start Inv-loop μ-loop
-start c = search
-
 loop-again : tie.Need-loop-again Inv-loop μ-loop
 loop-again c =
     let k : tie.After-keep Inv-loop μ-loop = search in
     let h : tie.After-share Inv-loop μ-loop = search in
     let e : tie.Else1 Inv-loop μ-loop = search in
-    let t = start e .pre in
+    let at-known6 : tie.After-shared-slice-known6 Inv-loop μ-loop = search in
+    let at-start : tie.Start Inv-loop μ-loop = search in
+    let t = at-start .pre in
     let v = e .before .before .loop .inv in (
       k .keep .kept .0 ∙ v .0,
       k .keep .kept .1 .0 ∙ v .1,

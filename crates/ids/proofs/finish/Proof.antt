@@ -1,3 +1,4 @@
+-- Of the count and 0, what stays is picked by the same tests that decide the answer: a law for each of its three cases. Assumes nothing.
 use Rattle.ids.proofs.Answering.{kept-most, finishing}
 use borrow.Author.Needs.{needs}
 use Rattle.ids.proofs.finish.Statement.{statement}

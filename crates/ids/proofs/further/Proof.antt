@@ -1,3 +1,4 @@
+-- The old end stays only where it is the larger one of the same client. Assumes nothing.
 use native.Mathlib.Omega.{arith}
 use Rattle.ids.proofs.Checking.{further-old, further-new}
 use borrow.Author.Needs.{needs}

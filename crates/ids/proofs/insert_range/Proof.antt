@@ -22,9 +22,6 @@ returns c =
 put-in-requires : tie.Need-put-in-requires
 put-in-requires c κs = (search walking, (search needs, search needs))
 
-abbrev start : tie.After-shared-slice-known3 → tie.Start
-start c = search
-
 returns-2 : tie.Need-returns-2
 returns-2 c =
     let f : tie.After-finish = search in
@@ -33,7 +30,7 @@ returns-2 c =
     let m : tie.After-most-rows = search in
     let l : tie.Else1 = search in
     let k : tie.After-shared-slice-known3 = search in
-    let s = start k in
+    let s : tie.Start = search in
     let a = s .args in
     let o = three (a .to-clients .now) (a .to-starts .now) (a .to-ends .now) in
     merged-inserted _ (row (a .client .0) (a .start .0) (a .end .0)) o _ (f .finish .result) (l .if1 .left)

@@ -10,9 +10,6 @@ use Rattle.ids.proofs.intersect.Tie as tie
 cross-requires : tie.Need-cross-requires
 cross-requires c κs = (search walking, (search walking, search needs))
 
-abbrev start : tie.After-shared-slice-known6 → tie.Start
-start c = search
-
 returns : tie.Need-returns
 returns c =
     let f : tie.After-finish = search in
@@ -20,8 +17,8 @@ returns c =
     let u : tie.After-cross = search in
     let m : tie.After-most-rows = search in
     let k : tie.After-shared-slice-known6 = search in
-    let a = start k .args in
-    made-of {o = three (a .to-clients .now) (a .to-starts .now) (a .to-ends .now)} intersection-means (f .finish .ensures) (u .cross .ensures) (m .most-rows .ensures) (omega (arith, u .cross .kept)) (search)
+    let o = let s : tie.Start = search in three (s .args .to-clients .now) (s .args .to-starts .now) (s .args .to-ends .now) in
+    made-of {o = o} intersection-means (f .finish .ensures) (u .cross .ensures) (m .most-rows .ensures) (omega (arith, u .cross .kept)) (search)
 
 pub intersect-spec : {M : Type 1} → statement M
 intersect-spec =

@@ -1,3 +1,4 @@
+-- A row is stored, counted, and the last one's end stored: one law over what the calls promise. The count is not 0 then, so there is a last one. Assumes nothing.
 use Rattle.tables.proofs.Uniting.{counted-some}
 use Rattle.ids.proofs.Placing.{joins}
 use borrow.Author.Needs.{needs}

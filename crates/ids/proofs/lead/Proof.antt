@@ -1,3 +1,4 @@
+-- The comparison of ids says whether it is the row's start or the range's. Assumes nothing.
 use native.Mathlib.Omega.{arith}
 use mathlib.Core.Path.{refl}
 use borrow.Author.Needs.{needs}

@@ -10,9 +10,6 @@ use Rattle.ids.proofs.merge.Tie as tie
 unite-requires : tie.Need-unite-requires
 unite-requires c κs = (search walking, (search walking, search needs))
 
-abbrev start : tie.After-shared-slice-known6 → tie.Start
-start c = search
-
 returns : tie.Need-returns
 returns c =
     let f : tie.After-finish = search in
@@ -20,8 +17,8 @@ returns c =
     let u : tie.After-unite = search in
     let m : tie.After-most-rows = search in
     let k : tie.After-shared-slice-known6 = search in
-    let a = start k .args in
-    made-of {o = three (a .to-clients .now) (a .to-starts .now) (a .to-ends .now)} union-means (f .finish .ensures) (u .unite .ensures) (m .most-rows .ensures) (omega (arith, u .unite .kept)) (search)
+    let o = let s : tie.Start = search in three (s .args .to-clients .now) (s .args .to-starts .now) (s .args .to-ends .now) in
+    made-of {o = o} union-means (f .finish .ensures) (u .unite .ensures) (m .most-rows .ensures) (omega (arith, u .unite .kept)) (search)
 
 pub merge-spec : {M : Type 1} → statement M
 merge-spec =

@@ -1,3 +1,4 @@
+-- Where one table is at its end, the row is the other's; else the earlier of two. Assumes nothing.
 use native.Mathlib.Omega.{arith}
 use mathlib.Core.Path.{ap}
 use Rattle.ids.specs.Inner.{taken, left, right}

@@ -1,3 +1,4 @@
+-- The order of ids is that of their places. Assumes nothing.
 use native.Mathlib.Omega.{arith}
 use Rattle.ids.proofs.Checking.{past-says}
 use Rattle.ids.proofs.past.Statement.{statement}

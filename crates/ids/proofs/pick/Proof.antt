@@ -1,3 +1,4 @@
+-- The test decides. Assumes nothing.
 use Rattle.ids.proofs.Checking.{picked-yes, picked-no}
 use Rattle.ids.proofs.pick.Statement.{statement}
 use Rattle.ids.proofs.pick.Tie as tie

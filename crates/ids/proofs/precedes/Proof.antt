@@ -1,3 +1,4 @@
+-- Of one client the clocks decide, and of two the clients. Assumes nothing.
 use native.Mathlib.Omega.{arith}
 use Rattle.tables.proofs.Testing.{less-says}
 use Rattle.ids.proofs.Checking.{same-says, other-says}

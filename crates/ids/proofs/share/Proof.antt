@@ -1,3 +1,4 @@
+-- Where all is of the row's client, clocks alone say what is shared; else ids do. Assumes nothing.
 use borrow.Author.Tests.{eqb-true}
 use Rattle.ids.proofs.Checking.{both-true}
 use Rattle.ids.proofs.Sharing.{shares-same}

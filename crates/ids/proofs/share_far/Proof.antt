@@ -1,3 +1,4 @@
+-- What is shared follows from six comparisons of ids, and the picks by them. Assumes nothing.
 use Rattle.ids.proofs.Sharing.{shares-far}
 use borrow.Author.Needs.{needs}
 use Rattle.ids.proofs.share_far.Statement.{statement}

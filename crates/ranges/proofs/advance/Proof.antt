@@ -1,3 +1,4 @@
+-- By division the factor is 1 where m is below x, and else 0: so the product is the step, and does not overflow. Assumes nothing.
 use native.Mathlib.Omega.{arith}
 use Rattle.tables.proofs.Inserting.{advanced, advanced-most}
 use borrow.Author.Needs.{needs}

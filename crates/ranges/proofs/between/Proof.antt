@@ -1,3 +1,4 @@
+-- Each test that is taken breaks a part of what is asked; where both are left, both hold. Assumes nothing.
 use native.Mathlib.Omega.{arith}
 use Rattle.tables.proofs.Saying.{says-yes, says-no}
 use Rattle.ranges.proofs.between.Statement.{statement}

@@ -1,3 +1,4 @@
+-- Two checks, said as one. Assumes nothing.
 use Rattle.tables.proofs.Saying.{says-both}
 use borrow.Author.Needs.{needs}
 use Rattle.ranges.proofs.both.Statement.{statement}

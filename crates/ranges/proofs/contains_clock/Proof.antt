@@ -1,21 +1,24 @@
+-- Malformed; or no row ends past the clock; or the first that does starts past it too; or that row holds it. Assumes nothing.
 use mathlib.Core.Bool.{true, false}
 use native.Mathlib.Omega.{arith}
-use Rattle.ranges.proofs.Asking.{formed, told, refused, held-at, held-none}
+use Rattle.tables.proofs.Saying.{says-left, tells-taken}
+use Rattle.ranges.proofs.Flat.{table-ruled}
+use Rattle.ranges.proofs.Asking.{told, held-at, held-none}
 use borrow.Author.Needs.{needs}
 use Rattle.ranges.proofs.contains_clock.Statement.{statement}
 use Rattle.ranges.proofs.contains_clock.Tie as tie
 
 returns : tie.Need-returns
-returns c = refused (c .before .well-formed .ensures) (c .if1 .taken)
+returns c = tells-taken table-ruled (c .before .well-formed .ensures) (c .if1 .taken)
 
 ends-below-requires : tie.Need-ends-below-requires
-ends-below-requires c κs = (formed (c .before .well-formed .ensures) (c .if1 .left), omega arith)
+ends-below-requires c κs = (says-left (c .before .well-formed .ensures) (c .if1 .left), omega arith)
 
 returns-2 : tie.Need-returns-2
 returns-2 c = let e : tie.Else1 = search in told (e .before .well-formed .ensures) (e .if1 .left) false (held-none _ _ _ _ (c .before .ends-below .ensures) (λ h. absurd (omega arith)))
 
 start-at-requires : tie.Need-start-at-requires
-start-at-requires c κs = let e : tie.Else1 = search in omega (arith, formed (e .before .well-formed .ensures) (e .if1 .left) .fits)
+start-at-requires c κs = let e : tie.Else1 = search in omega (arith, says-left (e .before .well-formed .ensures) (e .if1 .left) .fits)
 
 returns-3 : tie.Need-returns-3
 returns-3 c =

@@ -1,3 +1,4 @@
+-- The invariant: the elements passed are copied. So the rows are. Assumes nothing.
 use Rattle.tables.proofs.Copying.{Copied, copied-none, copied-more}
 use Rattle.ranges.proofs.Moving.{copied-rows}
 use Prim.Native.Nat.{_-_, _*_, _≤_}

@@ -1,3 +1,4 @@
+-- The row before `j` has the index j - 1. Assumes nothing.
 use mathlib.Core.Path.{ap, _∙_}
 use Prim.Native.Nat.{ℕ}
 use native.Mathlib.Omega.{arith}

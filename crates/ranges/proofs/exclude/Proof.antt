@@ -1,5 +1,10 @@
+-- Malformed; or the rows of the difference are laid out, and what is finished is its table. Assumes nothing.
+use mathlib.Core.Path.{_∙_}
+use native.Mathlib.Omega.{arith}
+use Rattle.tables.proofs.Saying.{gives-taken}
 use Rattle.tables.proofs.Sets.{difference-means}
-use Rattle.ranges.proofs.Writing.{refuses-both, both-asks, finished}
+use Rattle.ranges.proofs.Flat.{both-ruled}
+use Rattle.ranges.proofs.Writing.{filled-none, both-asks, finished}
 use borrow.Author.Needs.{needs}
 use Rattle.ranges.proofs.exclude.Statement.{statement}
 use Rattle.ranges.proofs.exclude.Tie as tie
@@ -8,7 +13,7 @@ returns : tie.Need-returns
 returns c =
     let z : tie.After-zero = search in
     let t : tie.Then1 = search in
-    refuses-both _ (t .before .both .ensures) (t .if1 .taken) (z .zero .ensures)
+    gives-taken both-ruled (t .before .both .ensures) (t .if1 .taken) (z .zero .ensures ∙ filled-none _)
 
 differ-requires : tie.Need-differ-requires
 differ-requires c κs =
@@ -20,7 +25,7 @@ returns-2 c =
     let f : tie.After-finish = search in
     let d : tie.After-differ = search in
     let r : tie.After-room = search in
-    finished difference-means _ (d .differ .last .1 .1 .1 .1 .0) (r .before .before .both .ensures) (r .before .if1 .left) (r .room .ensures) (d .differ .kept .1 .1 .1 .1 .0) (d .differ .ensures) (f .finish .ensures)
+    finished difference-means _ (d .differ .last .1 .1 .1 .1 .0) (r .before .before .both .ensures) (r .before .if1 .left) (r .room .ensures) (omega (arith, d .differ .kept)) (d .differ .ensures) (f .finish .ensures)
 
 pub exclude-spec : {M : Type 1} → statement M
 exclude-spec =

@@ -1,3 +1,4 @@
+-- Where there is no room, all is zero; else all behind the rows. Assumes nothing.
 use Prim.Native.Nat.{_*_}
 use Rattle.tables.proofs.Zeroing.{tail-zeroed}
 use Rattle.ranges.proofs.Writing.{wrote-full, wrote-done}

@@ -1,3 +1,4 @@
+-- The invariant: the table of the pairs passed stands in the output, and each table on the way had room. Assumes nothing.
 use mathlib.Core.Path.{_∙_}
 use Prim.Native.Nat.{_-_}
 use native.Mathlib.Omega.{arith}

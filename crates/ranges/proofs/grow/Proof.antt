@@ -1,3 +1,4 @@
+-- An empty range changes nothing. Any other becomes one row in the place of those that it meets, if there is room for all. Assumes nothing.
 use native.Mathlib.Omega.{arith}
 use lib.ListN.{length-set}
 use Rattle.tables.proofs.Inserting.{parted-from}

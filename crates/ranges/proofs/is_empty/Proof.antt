@@ -1,11 +1,14 @@
+-- Malformed; or the count is that of the rows, and 0 only if there is none. Assumes nothing.
 use mathlib.Core.Bool.{true, false}
-use Rattle.ranges.proofs.Asking.{refused, told, empty-yes, empty-no}
+use Rattle.tables.proofs.Saying.{tells-taken}
+use Rattle.ranges.proofs.Flat.{table-ruled}
+use Rattle.ranges.proofs.Asking.{told, empty-yes, empty-no}
 use borrow.Author.Needs.{needs}
 use Rattle.ranges.proofs.is_empty.Statement.{statement}
 use Rattle.ranges.proofs.is_empty.Tie as tie
 
 returns : tie.Need-returns
-returns c = refused (c .before .well-formed .ensures) (c .if1 .taken)
+returns c = tells-taken table-ruled (c .before .well-formed .ensures) (c .if1 .taken)
 
 returns-2 : tie.Need-returns-2
 returns-2 c = let e : tie.Else1 = search in told (e .before .well-formed .ensures) (e .if1 .left) true (λ _. empty-yes _ _ (c .if2 .taken))

@@ -1,3 +1,4 @@
+-- What was laid as row `k` is one row more where it is not empty, and stands behind the rows where it is. Assumes nothing.
 use mathlib.Core.Path.{refl}
 use native.Mathlib.Omega.{arith}
 use Rattle.tables.proofs.Meeting.{stores-keeps, stores-above}

@@ -1,3 +1,4 @@
+-- The invariant: the elements passed are copied down, and those not yet read are as they were. So the rows are moved. Assumes nothing.
 use Rattle.ranges.proofs.Moving.{Lowered, lowered-none, lowered-more, copied-rows}
 use Prim.Native.Nat.{_-_, _*_, _≤_}
 use native.Mathlib.Omega.{arith}

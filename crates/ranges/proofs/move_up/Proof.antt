@@ -1,3 +1,4 @@
+-- The invariant: the elements from w on are copied up, and those before are as they were. So the rows are moved. Assumes nothing.
 use Rattle.tables.proofs.Copying.{Raised, raised-none, raised-more}
 use Rattle.ranges.proofs.Moving.{raised-rows}
 use Prim.Native.Nat.{_*_, _≤_}

@@ -1,3 +1,4 @@
+-- An empty piece is no row and any other is one, for which there is room. Assumes nothing.
 use Rattle.ranges.proofs.Moving.{size-one, stands-none, stands-one}
 use lib.ListN.{length-set}
 use native.Mathlib.Omega.{arith}
@@ -6,7 +7,7 @@ use Rattle.ranges.proofs.put.Statement.{statement}
 use Rattle.ranges.proofs.put.Tie as tie
 
 returns : tie.Need-returns
-returns c = let a = c .before .before .args in stands-none (a .out .now) (a .k) (a .p .start) (a .p .end) (omega arith)
+returns c = let s : tie.Start = search in stands-none (s .args .out .now) (s .args .k) (s .args .p .start) (s .args .p .end) (omega arith)
 
 slice-write-out : tie.Need-slice-write-out
 slice-write-out c = omega (arith, size-one _ _ (c .if1 .left))
@@ -15,7 +16,9 @@ slice-write-out-2 : tie.Need-slice-write-out-2
 slice-write-out-2 c = simp length-set (omega (arith, size-one _ _ (c .if1 .left)))
 
 returns-2 : tie.Need-returns-2
-returns-2 c = let a = c .before .before .args in stands-one (a .out .now) (a .k) (a .p .start) (a .p .end) (c .if1 .left) (omega (arith, size-one _ _ (c .if1 .left)))
+returns-2 c =
+    let s : tie.Start = search in
+    stands-one (s .args .out .now) (s .args .k) (s .args .p .start) (s .args .p .end) (c .if1 .left) (omega (arith, size-one _ _ (c .if1 .left)))
 
 pub put-spec : {M : Type 1} → statement M
 put-spec =

@@ -1,8 +1,11 @@
 -- Malformed, the same table, or the rows that the range meets replaced. Assumes nothing.
+use mathlib.Core.Path.{_∙_}
 use native.Mathlib.Omega.{arith}
 use borrow.Author.Needs.{needs}
-use Rattle.ranges.proofs.Asking.{formed}
-use Rattle.ranges.proofs.Editing.{refuses-one, splice-asks, starts-ask, removed-none, removed-some}
+use Rattle.tables.proofs.Saying.{says-left, gives-taken}
+use Rattle.ranges.proofs.Flat.{table-ruled}
+use Rattle.ranges.proofs.Writing.{filled-none}
+use Rattle.ranges.proofs.Editing.{splice-asks, starts-ask, removed-none, removed-some}
 use Rattle.ranges.proofs.remove.Statement.{statement}
 use Rattle.ranges.proofs.remove.Tie as tie
 
@@ -10,7 +13,7 @@ returns : tie.Need-returns
 returns c =
     let z : tie.After-zero = search in
     let t : tie.Then1 = search in
-    refuses-one _ (t .before .well-formed .ensures) (t .if1 .taken) (z .zero .ensures)
+    gives-taken table-ruled (t .before .well-formed .ensures) (t .if1 .taken) (z .zero .ensures ∙ filled-none _)
 
 splice-requires : tie.Need-splice-requires
 splice-requires c κs = let e : tie.Else1 = search in splice-asks (e .before .well-formed .ensures) (e .if1 .left) (omega arith) (omega arith)
@@ -23,16 +26,16 @@ returns-2 c =
     removed-none (e .before .well-formed .ensures) (e .if1 .left) (s .if2 .taken) (w .splice .ensures)
 
 ends-below-requires : tie.Need-ends-below-requires
-ends-below-requires c κs = let e : tie.Else1 = search in (formed (e .before .well-formed .ensures) (e .if1 .left), omega arith)
+ends-below-requires c κs = let e : tie.Else1 = search in (says-left (e .before .well-formed .ensures) (e .if1 .left), omega arith)
 
 starts-below-requires : tie.Need-starts-below-requires
 starts-below-requires c κs = let e : tie.Else1 = search in starts-ask (e .before .well-formed .ensures) (e .if1 .left) (omega arith) (omega arith) (c .ends-below .ensures)
 
 start-or-requires : tie.Need-start-or-requires
-start-or-requires c κs = let e : tie.Else1 = search in omega (arith, formed (e .before .well-formed .ensures) (e .if1 .left) .fits)
+start-or-requires c κs = let e : tie.Else1 = search in omega (arith, says-left (e .before .well-formed .ensures) (e .if1 .left) .fits)
 
 end-or-requires : tie.Need-end-or-requires
-end-or-requires c κs = let e : tie.Else1 = search in omega (arith, formed (e .before .well-formed .ensures) (e .if1 .left) .fits, c .before .starts-below .ensures .0 .within)
+end-or-requires c κs = let e : tie.Else1 = search in omega (arith, says-left (e .before .well-formed .ensures) (e .if1 .left) .fits, c .before .starts-below .ensures .0 .within)
 
 splice-requires-2 : tie.Need-splice-requires-2
 splice-requires-2 c κs =

@@ -1,3 +1,4 @@
+-- Where the rows from below have no room, the count alone is asked; else those from above are moved behind them. Assumes nothing.
 use native.Mathlib.Omega.{arith}
 use Rattle.tables.proofs.Meeting.{halves-over, halves-moved}
 use borrow.Author.Needs.{needs}

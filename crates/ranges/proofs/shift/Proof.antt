@@ -1,3 +1,4 @@
+-- The rows move up by one where the range meets none, stay where it meets one, and move down where it meets more. Assumes nothing.
 use native.Mathlib.Omega.{arith}
 use Rattle.tables.proofs.Placing.{moved-to}
 use Rattle.ranges.proofs.Parts.{moved-part, moved-none}

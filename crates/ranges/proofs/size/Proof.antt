@@ -1,3 +1,4 @@
+-- A piece is one row, or none. Assumes nothing.
 use Rattle.ranges.proofs.Moving.{size-one, size-none}
 use mathlib.Core.Path.{sym}
 use native.Mathlib.Omega.{arith}

@@ -1,3 +1,4 @@
+-- The count is known before a row is stored. Without room it alone is asked; else the four parts stand one behind the other. Assumes nothing.
 use Rattle.tables.specs.Inner.Edit.{range}
 use Rattle.ranges.specs.Inner.{rowAt}
 use Rattle.ranges.proofs.Moving.{sized}

@@ -1,3 +1,4 @@
+-- The last two ends part the rows where one of them is below x; else the search does. Assumes nothing.
 use Rattle.tables.proofs.Inserting.{parted-at}
 use Prim.Native.Nat.{_-_}
 use native.Mathlib.Omega.{arith}

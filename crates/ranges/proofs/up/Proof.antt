@@ -1,3 +1,4 @@
+-- A step from below is one law over what the calls promise. Assumes nothing.
 use Rattle.tables.proofs.Meeting.{step-below}
 use borrow.Author.Needs.{needs}
 use Rattle.ranges.proofs.up.Statement.{statement}

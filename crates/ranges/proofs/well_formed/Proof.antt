@@ -1,3 +1,4 @@
+-- The invariant: each number passed is above the one before it. The rows are a table exactly if all are. Assumes nothing.
 use Prim.Native.Nat.{_-_, _*_}
 use Rattle.tables.proofs.Saying.{says-no}
 use native.Mathlib.Omega.{arith}
@@ -22,7 +23,7 @@ loop-holds : tie.Need-loop-holds Inv-loop μ-loop
 loop-holds c = rose-none _ _
 
 loop-again : tie.Need-loop-again Inv-loop μ-loop
-loop-again c = rose-more _ (c .before .before .before .loop .inv) (omega arith)
+loop-again c = let l : tie.At-loop Inv-loop μ-loop = search in rose-more _ (l .loop .inv) (omega arith)
 
 returns-3 : tie.Need-returns-3 Inv-loop μ-loop
 returns-3 c = says-ruled (omega arith) (omega arith) (rose-all _ (c .before .loop .inv) (omega arith))

@@ -1,4 +1,4 @@
--- `state_vector::any` meets its contract: the loop goes by `Nulls`. Assumes nothing.
+-- The invariant: `found` says whether a clock passed is above 0. Assumes nothing.
 use native.Mathlib.Omega.{arith}
 use Prim.Native.Nat.{_-_, _≤_}
 use Rattle.state_vector.specs.Inner.{Nulls}

@@ -1,4 +1,4 @@
--- `state_vector::any_less` meets its contract: the loop goes by `anyLess`. Assumes nothing.
+-- The invariant: `found` says whether a clock passed is less on the left. Assumes nothing.
 use native.Mathlib.Omega.{arith}
 use mathlib.Core.Path.{_≡_}
 use Prim.Native.Nat.{_-_, _≤_}

@@ -1,4 +1,4 @@
--- `state_vector::clear` meets its contract. Assumes nothing.
+-- Two zeroed slices hold no row. Assumes nothing.
 use Rattle.state_vector.proofs.Storing.{cleared}
 use borrow.Author.Needs.{needs}
 use Rattle.state_vector.proofs.clear.Statement.{statement}

@@ -1,4 +1,4 @@
--- `state_vector::clock_at` meets its contract. Assumes nothing.
+-- The row where the client's is found to belong is the client's, and its clock is read; or the client is absent, which is 0. Assumes nothing.
 use native.Mathlib.Omega.{arith}
 use Rattle.state_vector.proofs.Spanning.{table-climbs}
 use Rattle.state_vector.proofs.Finding.{clock-here, clock-none}

@@ -1,4 +1,4 @@
--- `state_vector::close` meets its contract. Assumes nothing.
+-- Where there is no room, all is zero; else all behind the rows. Assumes nothing.
 use Rattle.state_vector.specs.Inner.{fits, over}
 use borrow.Author.Needs.{needs}
 use Rattle.state_vector.proofs.close.Statement.{statement}

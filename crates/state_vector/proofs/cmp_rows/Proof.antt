@@ -1,4 +1,4 @@
--- `state_vector::cmp_rows` meets its contract. Assumes nothing.
+-- The invariant: the clients passed are compared. Where one vector is at its end, the other's clocks decide. Assumes nothing.
 use native.Mathlib.Omega.{arith}
 use Prim.Native.Nat.{_+_, _-_}
 use Rattle.state_vector.specs.Vectors.{two}

@@ -1,4 +1,4 @@
--- `state_vector::copy_wide` meets its contract: the loop goes by `Firsts`. Assumes nothing.
+-- The invariant: the elements passed are copied. Assumes nothing.
 use native.Mathlib.Omega.{arith}
 use mathlib.Core.Path.{_≡_, refl}
 use Prim.Native.Nat.{_-_, _≤_}

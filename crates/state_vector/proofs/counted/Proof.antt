@@ -1,4 +1,4 @@
--- `state_vector::counted` meets its contract. Assumes nothing.
+-- The comparison of the clients decides. Assumes nothing.
 use borrow.Author.Tests.{eq-eqb, ne-eqb}
 use Rattle.state_vector.proofs.counted.Statement.{statement}
 use Rattle.state_vector.proofs.counted.Tie as tie

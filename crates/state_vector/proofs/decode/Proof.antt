@@ -1,4 +1,4 @@
--- `state_vector::decode` meets its contract. Assumes nothing.
+-- The count is refused; or a pair is, and all is cleared; or the rows of the pairs stand in front, and what is behind them is zeroed. Assumes nothing.
 use native.Mathlib.Omega.{arith}
 use Rattle.state_vector.specs.Vectors.{two}
 use Rattle.state_vector.proofs.Decoding.{decodes-none, decodes-stopped, decodes-all, decoded-fits}

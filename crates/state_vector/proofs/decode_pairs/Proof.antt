@@ -1,4 +1,4 @@
--- `state_vector::decode_pairs` meets its contract. Assumes nothing.
+-- The invariant: what is left to read, with the rows so far, gives what the whole gives; and these rows stand in the output. Assumes nothing.
 use native.Mathlib.Omega.{arith}
 use mathlib.Core.Path.{_∙_}
 use mathlib.Core.List.{[]}

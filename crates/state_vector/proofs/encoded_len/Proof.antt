@@ -1,4 +1,4 @@
--- `state_vector::encoded_len` meets its contract. Assumes nothing.
+-- The invariant: the sum is that of the count and the rows passed. A row takes at most fifteen bytes, so it does not overflow. Assumes nothing.
 use native.Mathlib.Omega.{arith}
 use Prim.Native.Nat.{_-_}
 use Rattle.state_vector.specs.Inner.{rowAt}

@@ -1,4 +1,4 @@
--- `state_vector::find` meets its contract: the loop goes by `Parted`. Assumes nothing.
+-- The invariant: the clients before lo are below the client, and those from hi on are not. Assumes nothing.
 use native.Mathlib.Omega.{arith}
 use Prim.Native.Nat.{_-_}
 use Rattle.tables.specs.Inner.Edit.{Parted}

@@ -1,7 +1,7 @@
--- `state_vector::get` meets its contract. Assumes nothing.
-use borrow.Author.Tests.{not-true, not-false}
+-- Malformed; or the clock that `clock_at` reads. Assumes nothing.
 use mathlib.Core.Path.{refl}
-use Rattle.tables.specs.Answers.{says, refuses}
+use Rattle.tables.specs.Answers.{says}
+use Rattle.tables.proofs.Saying.{says-left, tells-taken}
 use borrow.Author.Needs.{needs}
 use Rattle.state_vector.proofs.get.Statement.{statement}
 use Rattle.state_vector.proofs.get.Tie as tie
@@ -11,6 +11,6 @@ get-spec =
     tie.close
     (tie.spec
     (λ c κs. search needs)
-    (λ c. refuses (c .before .well-formed .ensures .wrong (not-true _ (c .if1 .taken))) refl)
-    (λ c κs. c .before .well-formed .ensures .right (not-false _ (c .if1 .left)))
-    (λ c. says (c .before .before .well-formed .ensures .right (not-false _ (c .before .if1 .left))) refl (c .clock-at .ensures)))
+    (λ c. tells-taken (λ t. t) (c .before .well-formed .ensures) (c .if1 .taken))
+    (λ c κs. says-left (c .before .well-formed .ensures) (c .if1 .left))
+    (λ c. let e : tie.Else1 = search in says (says-left (e .before .well-formed .ensures) (e .if1 .left)) refl (c .clock-at .ensures)))

@@ -1,4 +1,4 @@
--- `state_vector::larger_front` meets its contract: the loop goes by `Firsts`. Assumes nothing.
+-- The invariant: of the rows passed the larger clocks are stored. Assumes nothing.
 use native.Mathlib.Omega.{arith}
 use mathlib.Core.Path.{_≡_, refl}
 use Prim.Native.Nat.{_-_, _≤_, max}
@@ -31,6 +31,8 @@ larger-front-spec =
     (λ c. search needs)
     (λ c. search needs)
     (λ c. search needs)
-    (λ c. (firsts-store (c .before .before .before .before .loop .inv .0) (omega arith) (c .larger .ensures), simp length-set (omega arith), omega arith))
+    (λ c.
+    let l : tie.At-loop Inv-loop μ-loop = search in
+    (firsts-store (l .loop .inv .0) (omega arith) (c .larger .ensures), simp length-set (omega arith), omega arith))
     (λ c. c .before .loop .inv .1)
     (λ c. firsts-all (c .before .loop .inv .0) (omega arith)))

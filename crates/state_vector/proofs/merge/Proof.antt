@@ -1,14 +1,11 @@
--- `state_vector::merge` meets its contract. Assumes nothing.
+-- Malformed, left or right; or the rows of both are merged, and what is closed is their vector. Assumes nothing.
 use native.Mathlib.Omega.{arith}
 use Rattle.state_vector.specs.Vectors.{two}
 use Rattle.state_vector.proofs.Storing.{gives-closed}
-use Rattle.state_vector.proofs.Answering.{formed, refused-left, refused-right}
+use Rattle.tables.proofs.Saying.{says-left, gives-taken}
 use borrow.Author.Needs.{needs}
 use Rattle.state_vector.proofs.merge.Statement.{statement}
 use Rattle.state_vector.proofs.merge.Tie as tie
-
-abbrev start : tie.After-most-rows → tie.Start
-start c = search
 
 pub merge-spec : {M : Type 1} → statement M
 merge-spec =
@@ -21,8 +18,7 @@ merge-spec =
     (λ c.
     let e : tie.After-clear = search in
     let t : tie.Then1 = search in
-    let s : tie.Start = search in
-    refused-left (two (s .args .to-clients .now) (s .args .to-clocks .now)) (t .before .well-formed .ensures) (t .if1 .taken) (e .clear .ensures))
+    gives-taken (λ t. t .0) (t .before .well-formed .ensures) (t .if1 .taken) (e .clear .ensures))
     (λ c κs. search needs)
     (λ c κs. search needs)
     (λ c. search needs)
@@ -30,13 +26,12 @@ merge-spec =
     (λ c.
     let e : tie.After-clear2 = search in
     let t : tie.Then2 = search in
-    let s : tie.Start = search in
-    refused-right (two (s .args .to-clients .now) (s .args .to-clocks .now)) (t .before .well-formed2 .ensures) (t .if2 .taken) (e .clear2 .ensures))
+    gives-taken (λ t. t .1) (t .before .well-formed2 .ensures) (t .if2 .taken) (e .clear2 .ensures))
     (λ c κs. search needs)
     (λ c κs.
     let y : tie.Else2 = search in
     let x : tie.Else1 = search in
-    (formed (x .before .well-formed .ensures) (x .if1 .left), (formed (y .before .well-formed2 .ensures) (y .if2 .left), omega arith)))
+    (says-left (x .before .well-formed .ensures) (x .if1 .left), (says-left (y .before .well-formed2 .ensures) (y .if2 .left), omega arith)))
     (λ c κs. search needs)
     (λ c. search needs)
     (λ c. search needs)
@@ -46,5 +41,6 @@ merge-spec =
     let r : tie.After-most-rows = search in
     let y : tie.Else2 = search in
     let x : tie.Else1 = search in
-    let a = start r .args in
-    gives-closed (two (a .to-clients .now) (a .to-clocks .now)) (r .most-rows .ensures) (formed (x .before .well-formed .ensures) (x .if1 .left), formed (y .before .well-formed2 .ensures) (y .if2 .left)) (m .merge-rows .ensures .right) (omega (arith, m .merge-rows .kept)) (omega (arith, m .merge-rows .kept)) (m .merge-rows .ensures .holds) (e .close .ensures)))
+    let k : tie.After-shared-slice-known4 = search in
+    let o = let s : tie.Start = search in two (s .args .to-clients .now) (s .args .to-clocks .now) in
+    gives-closed o (r .most-rows .ensures) (says-left (x .before .well-formed .ensures) (x .if1 .left), says-left (y .before .well-formed2 .ensures) (y .if2 .left)) (m .merge-rows .ensures .right) (omega (arith, m .merge-rows .kept)) (omega (arith, m .merge-rows .kept)) (m .merge-rows .ensures .holds) (e .close .ensures)))

@@ -1,4 +1,4 @@
--- `state_vector::merge_front` meets its contract. Assumes nothing.
+-- As far as the clients are the same and there is room, each row has the client and the larger clock. Assumes nothing.
 use native.Mathlib.Omega.{arith}
 use Rattle.state_vector.specs.Vectors.{two}
 use Rattle.state_vector.proofs.Stepping.{front-within, table-within, room-within}

@@ -1,4 +1,4 @@
--- `state_vector::merge_rows` meets its contract. Assumes nothing.
+-- The invariant: i rows of the one vector and j of the other are merged. Where one is at its end, the rest of the other follows. Assumes nothing.
 use native.Mathlib.Omega.{arith}
 use mathlib.Core.Path.{refl}
 use Prim.Native.Nat.{_+_, _-_}

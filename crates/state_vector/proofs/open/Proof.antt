@@ -1,4 +1,4 @@
--- `state_vector::open` meets its contract: the loop goes by `Opening`. Assumes nothing.
+-- The invariant: the elements from j on are moved up, and those before are as they were. Assumes nothing.
 use native.Mathlib.Omega.{arith}
 use mathlib.Core.Path.{_≡_, refl}
 use Prim.Native.Nat.{_-_}

@@ -1,7 +1,6 @@
--- `state_vector::partial_cmp` meets its contract. Assumes nothing.
-use borrow.Author.Tests.{not-true, not-false}
-use mathlib.Core.Path.{refl}
-use Rattle.tables.specs.Answers.{says, refuses}
+-- Malformed, left or right; or the verdict of the rows. Assumes nothing.
+use Rattle.tables.specs.Answers.{says}
+use Rattle.tables.proofs.Saying.{says-left, tells-taken}
 use borrow.Author.Needs.{needs}
 use Rattle.state_vector.proofs.partial_cmp.Statement.{statement}
 use Rattle.state_vector.proofs.partial_cmp.Tie as tie
@@ -11,8 +10,11 @@ partial-cmp-spec =
     tie.close
     (tie.spec
     (λ c κs. search needs)
-    (λ c. refuses (λ w. c .before .well-formed .ensures .wrong (not-true _ (c .if1 .taken)) (w .0)) refl)
+    (λ c. tells-taken (λ t. t .0) (c .before .well-formed .ensures) (c .if1 .taken))
     (λ c κs. search needs)
-    (λ c. refuses (λ w. c .before .well-formed2 .ensures .wrong (not-true _ (c .if2 .taken)) (w .1)) refl)
-    (λ c κs. (c .before .before .before .well-formed .ensures .right (not-false _ (c .before .before .if1 .left)), c .before .well-formed2 .ensures .right (not-false _ (c .if2 .left))))
-    (λ c. says (c .before .before .before .before .well-formed .ensures .right (not-false _ (c .before .before .before .if1 .left)), c .before .before .well-formed2 .ensures .right (not-false _ (c .before .if2 .left))) (c .cmp-rows .ensures .done) (c .cmp-rows .ensures .right)))
+    (λ c. tells-taken (λ t. t .1) (c .before .well-formed2 .ensures) (c .if2 .taken))
+    (λ c κs. let e : tie.Else1 = search in (says-left (e .before .well-formed .ensures) (e .if1 .left), says-left (c .before .well-formed2 .ensures) (c .if2 .left)))
+    (λ c.
+    let d : tie.Else2 = search in
+    let e : tie.Else1 = search in
+    says (says-left (e .before .well-formed .ensures) (e .if1 .left), says-left (d .before .well-formed2 .ensures) (d .if2 .left)) (c .cmp-rows .ensures .done) (c .cmp-rows .ensures .right)))

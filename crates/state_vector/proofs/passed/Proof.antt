@@ -1,4 +1,4 @@
--- `state_vector::passed` meets its contract. Assumes nothing.
+-- The comparison of the clients decides. Assumes nothing.
 use borrow.Author.Tests.{eq-eqb, ne-eqb}
 use borrow.Author.Needs.{needs}
 use Rattle.state_vector.proofs.passed.Statement.{statement}

@@ -1,4 +1,4 @@
--- `state_vector::place` meets its contract. Assumes nothing.
+-- A client above the last one belongs behind all rows; any other is found. Assumes nothing.
 use native.Mathlib.Omega.{arith}
 use Rattle.state_vector.proofs.Loops.{finds-last}
 use borrow.Author.Needs.{needs}
@@ -13,6 +13,6 @@ place-spec =
     (λ c. search needs)
     (λ c. search needs)
     (λ c. search needs)
-    (λ c. finds-last (c .before .before .before .before .pre .1) (omega arith) (c .if2 .taken))
+    (λ c. let s : tie.Start = search in finds-last (s .pre .1) (omega arith) (c .if2 .taken))
     (λ c κs. search needs)
     (λ c. search needs))

@@ -1,4 +1,4 @@
--- `state_vector::put_row` meets its contract. Assumes nothing.
+-- The client's row gets the clock; or there is no room and one row more is counted; or the rows behind move up, and the new one stands between. Assumes nothing.
 use native.Mathlib.Omega.{arith}
 use Rattle.state_vector.proofs.Spanning.{table-climbs}
 use Rattle.state_vector.proofs.Finding.{put-over, put-counted, put-opened}

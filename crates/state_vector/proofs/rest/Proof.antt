@@ -1,4 +1,4 @@
--- `state_vector::rest` meets its contract. Assumes nothing.
+-- The invariant: the rows passed stand behind those that were there, as far as there is room. Assumes nothing.
 use native.Mathlib.Omega.{arith}
 use Prim.Native.Nat.{_-_}
 use Rattle.state_vector.specs.Vectors.{two}

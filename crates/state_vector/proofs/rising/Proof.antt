@@ -1,4 +1,4 @@
--- `state_vector::rising` meets its contract: the loop goes by `Rose`. Assumes nothing.
+-- The invariant: each client passed is above the one before it. Assumes nothing.
 use native.Mathlib.Omega.{arith}
 use Prim.Native.Nat.{_-_}
 use Rattle.tables.proofs.Climbing.{Rose, rose-none, rose-more, rose-all}

@@ -1,4 +1,4 @@
--- `state_vector::same_front` meets its contract: the loop goes by `Firsts`. Assumes nothing.
+-- The invariant: the clients passed are the same. Assumes nothing.
 use native.Mathlib.Omega.{arith}
 use Prim.Native.Nat.{_-_, _≤_}
 use Rattle.state_vector.specs.Inner.{Firsts, element}
@@ -24,8 +24,8 @@ same-front-spec =
     (λ c. search needs)
     (λ c. search needs)
     (λ c. search needs)
-    (λ c. c .before .before .before .before .loop .inv)
+    (λ c. let l : tie.At-loop Inv-loop μ-loop = search in l .loop .inv)
     (λ c. search needs)
     (λ c. search needs)
-    (λ c. (omega arith, firsts-more (c .before .before .before .before .loop .inv .1) (omega arith)))
+    (λ c. let l : tie.At-loop Inv-loop μ-loop = search in (omega arith, firsts-more (l .loop .inv .1) (omega arith)))
     (λ c. c .before .loop .inv))

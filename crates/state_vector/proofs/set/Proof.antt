@@ -1,4 +1,4 @@
--- `state_vector::set` meets its contract. Assumes nothing.
+-- Where the vector alone has no room, neither has the result. Else it is copied and the row put in, and what is closed is the result. Assumes nothing.
 use native.Mathlib.Omega.{arith}
 use Rattle.state_vector.specs.Vectors.{two}
 use Rattle.state_vector.proofs.Storing.{gives-closed}

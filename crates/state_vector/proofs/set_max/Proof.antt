@@ -1,6 +1,5 @@
--- `state_vector::set_max` meets its contract. Assumes nothing.
-use Rattle.state_vector.specs.Vectors.{two}
-use Rattle.state_vector.proofs.Answering.{formed, refused-one}
+-- Malformed; or the larger of two clocks is set. Assumes nothing.
+use Rattle.tables.proofs.Saying.{says-left, gives-taken}
 use borrow.Author.Needs.{needs}
 use Rattle.state_vector.proofs.set_max.Statement.{statement}
 use Rattle.state_vector.proofs.set_max.Tie as tie
@@ -16,11 +15,10 @@ set-max-spec =
     (λ c.
     let e : tie.After-clear = search in
     let t : tie.Then1 = search in
-    let s : tie.Start = search in
-    refused-one (two (s .args .to-clients .now) (s .args .to-clocks .now)) (t .before .well-formed .ensures) (t .if1 .taken) (e .clear .ensures))
-    (λ c κs. search formed)
+    gives-taken (λ t. t) (t .before .well-formed .ensures) (t .if1 .taken) (e .clear .ensures))
+    (λ c κs. let e : tie.Else1 = search in says-left (e .before .well-formed .ensures) (e .if1 .left))
     (λ c κs. search needs)
-    (λ c κs. search formed)
+    (λ c κs. let e : tie.Else1 = search in says-left (e .before .well-formed .ensures) (e .if1 .left))
     (λ c. search needs)
     (λ c. search needs)
     (λ c.

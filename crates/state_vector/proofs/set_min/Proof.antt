@@ -1,6 +1,5 @@
--- `state_vector::set_min` meets its contract. Assumes nothing.
-use Rattle.state_vector.specs.Vectors.{two}
-use Rattle.state_vector.proofs.Answering.{formed, refused-one}
+-- Malformed; or the smaller of two clocks is set, for an absent client the given one. Assumes nothing.
+use Rattle.tables.proofs.Saying.{says-left, gives-taken}
 use borrow.Author.Needs.{needs}
 use Rattle.state_vector.proofs.set_min.Statement.{statement}
 use Rattle.state_vector.proofs.set_min.Tie as tie
@@ -16,10 +15,9 @@ set-min-spec =
     (λ c.
     let e : tie.After-clear = search in
     let t : tie.Then1 = search in
-    let s : tie.Start = search in
-    refused-one (two (s .args .to-clients .now) (s .args .to-clocks .now)) (t .before .well-formed .ensures) (t .if1 .taken) (e .clear .ensures))
-    (λ c κs. search formed)
-    (λ c κs. search formed)
+    gives-taken (λ t. t) (t .before .well-formed .ensures) (t .if1 .taken) (e .clear .ensures))
+    (λ c κs. let e : tie.Else1 = search in says-left (e .before .well-formed .ensures) (e .if1 .left))
+    (λ c κs. let e : tie.Else1 = search in says-left (e .before .well-formed .ensures) (e .if1 .left))
     (λ c. search needs)
     (λ c. search needs)
     (λ c. let e : tie.After-set = search in let l : tie.After-smaller-at = search in rw (l .smaller-at .ensures) at (e .set .ensures)))

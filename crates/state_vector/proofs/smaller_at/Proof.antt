@@ -1,6 +1,6 @@
--- `state_vector::smaller_at` meets its contract. Assumes nothing.
+-- The row where the client's is found to belong is the client's, and the smaller clock is taken; or the client is absent, and it is the given one. Assumes nothing.
 use native.Mathlib.Omega.{arith}
-use borrow.Author.Tests.{not-true, not-false}
+use Rattle.tables.proofs.Saying.{says-left, says-taken}
 use Rattle.state_vector.proofs.Spanning.{table-climbs}
 use Rattle.state_vector.proofs.Finding.{smaller-here, smaller-absent}
 use borrow.Author.Needs.{needs}
@@ -15,13 +15,13 @@ smaller-at-spec =
     (λ c κs. search needs)
     (λ c.
     let at-start : tie.Start = search in
-    smaller-absent (at-start .pre) (c .before .before .find .ensures) _ (c .before .stands .ensures .wrong (not-true _ (c .if1 .taken))))
+    smaller-absent (at-start .pre) (c .before .before .find .ensures) _ (says-taken (c .before .stands .ensures) (c .if1 .taken)))
     (λ c. search needs)
     (λ c.
     let at-start : tie.Start = search in
-    omega (arith, c .before .before .stands .ensures .right (not-false _ (c .before .if1 .left)) .within, at-start .pre .few))
+    omega (arith, says-left (c .before .before .stands .ensures) (c .before .if1 .left) .within, at-start .pre .few))
     (λ c κs. search needs)
     (λ c.
     let at-stands : tie.After-stands = search in
     let at-start : tie.Start = search in
-    smaller-here (at-start .pre) (at-stands .before .find .ensures) _ _ (at-stands .stands .ensures .right (not-false _ (c .before .before .if1 .left))) (c .least .ensures)))
+    smaller-here (at-start .pre) (at-stands .before .find .ensures) _ _ (says-left (at-stands .stands .ensures) (c .before .before .if1 .left)) (c .least .ensures)))

@@ -1,4 +1,4 @@
--- `state_vector::stands` meets its contract. Assumes nothing.
+-- The place is past the rows, or the client there decides. Assumes nothing.
 use native.Mathlib.Omega.{arith}
 use Rattle.tables.proofs.Saying.{says-yes, says-no}
 use borrow.Author.Needs.{needs}

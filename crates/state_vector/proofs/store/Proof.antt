@@ -1,4 +1,4 @@
--- `state_vector::store` meets its contract. Assumes nothing.
+-- Where there is room, the row is stored; else nothing is changed. Assumes nothing.
 use native.Mathlib.Omega.{arith}
 use Rattle.state_vector.proofs.Storing.{stored, unstored}
 use borrow.Author.Needs.{needs}

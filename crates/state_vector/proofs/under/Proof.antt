@@ -1,4 +1,4 @@
--- `state_vector::under` meets its contract. Assumes nothing.
+-- Only the lower client's rows are compared: a vector without one has 0. Assumes nothing.
 use Rattle.state_vector.proofs.Loops.{unders}
 use Rattle.state_vector.proofs.under.Statement.{statement}
 use Rattle.state_vector.proofs.under.Tie as tie

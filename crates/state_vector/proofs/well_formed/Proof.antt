@@ -1,6 +1,6 @@
--- `state_vector::well_formed` meets its contract. Assumes nothing.
+-- The count is within the limit and both slices, or it is no vector; then it is one exactly if the clients rise. Assumes nothing.
 use native.Mathlib.Omega.{arith}
-use Rattle.tables.proofs.Saying.{says-no}
+use Rattle.tables.proofs.Saying.{says-no, says-as}
 use Rattle.state_vector.proofs.Spanning.{climbs-table, table-climbs}
 use borrow.Author.Needs.{needs}
 use Rattle.state_vector.proofs.well_formed.Statement.{statement}
@@ -14,4 +14,4 @@ well-formed-spec =
     (λ c. says-no (λ w. omega (arith, w .few)))
     (λ c. says-no (λ w. omega (arith, w .few)))
     (λ c κs. search needs)
-    (λ c. record { right = λ e. climbs-table (omega arith) (omega arith) (omega arith) (c .rising .ensures .right e); wrong = λ e w. c .rising .ensures .wrong e (table-climbs w) }))
+    (λ c. says-as (climbs-table (omega arith) (omega arith) (omega arith)) table-climbs (c .rising .ensures)))

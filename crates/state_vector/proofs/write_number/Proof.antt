@@ -1,4 +1,4 @@
--- `state_vector::write_number` meets its contract. Assumes nothing.
+-- The bytes fit, so that the number is not refused, and they are put. Assumes nothing.
 use Rattle.state_vector.proofs.Encoding.{number-put, number-fits}
 use borrow.Author.Needs.{needs}
 use Rattle.state_vector.proofs.write_number.Statement.{statement}
@@ -14,4 +14,7 @@ write-number-spec =
     (λ c. search needs)
     (λ c. search number-put)
     (λ c. search needs)
-    (λ c. absurd (number-fits _ _ _ _ (c .enum-told .given .1) (c .before .before .before .before .write-u64 .ensures) (c .before .before .before .before .before .before .before .pre))))
+    (λ c.
+    let w : tie.After-write-u64 = search in
+    let s : tie.Start = search in
+    absurd (number-fits _ _ _ _ (c .enum-told .given .1) (w .write-u64 .ensures) (s .pre))))

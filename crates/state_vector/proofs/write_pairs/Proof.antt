@@ -1,4 +1,4 @@
--- `state_vector::write_pairs` meets its contract. Assumes nothing.
+-- The invariant: the bytes of the rows passed are put. All fit, so each number does. Assumes nothing.
 use native.Mathlib.Omega.{arith}
 use Prim.Native.Nat.{_-_}
 use Rattle.varint.proofs.Chaining.{put-length}

@@ -1,4 +1,4 @@
--- `state_vector::write_rows` meets its contract. Assumes nothing.
+-- The count's bytes and then those of the rows: all fit, so both do. Assumes nothing.
 use Rattle.state_vector.proofs.Encoding.{count-fits, rows-fit, rows-put}
 use borrow.Author.Needs.{needs}
 use Rattle.state_vector.proofs.write_rows.Statement.{statement}

@@ -1,4 +1,4 @@
--- `state_vector::zero_rest` meets its contract. Assumes nothing.
+-- Two tails are zeroed. Assumes nothing.
 use native.Mathlib.Omega.{arith}
 use Rattle.tables.proofs.Zeroing.{tail-zeroed}
 use Rattle.state_vector.proofs.Storing.{closed}
@@ -22,4 +22,9 @@ zero-rest-spec =
     (λ c κs. search needs)
     (λ c. search needs)
     (λ c. search needs)
-    (λ c. let a = c .before .before .before .before .before .before .before .before .before .before .args in closed (a .to-clients .now) (a .to-clocks .now) (a .k) _ _ (omega arith) (tail-zeroed (a .k) (a .to-clients .now) _ (omega arith) (c .before .before .before .before .before .before .zero-wide .ensures)) (tail-zeroed (a .k) (a .to-clocks .now) _ (omega arith) (c .before .before .zero .ensures))))
+    (λ c.
+    let z : tie.After-zero = search in
+    let w : tie.After-zero-wide = search in
+    let s : tie.Start = search in
+    let a = s .args in
+    closed (a .to-clients .now) (a .to-clocks .now) (a .k) _ _ (omega arith) (tail-zeroed (a .k) (a .to-clients .now) _ (omega arith) (w .zero-wide .ensures)) (tail-zeroed (a .k) (a .to-clocks .now) _ (omega arith) (z .zero .ensures))))

@@ -1,6 +1,6 @@
+-- The invariant: the elements passed are zero, and the others are as they were. Assumes nothing.
 use Rattle.tables.proofs.Zeroing.{zeroed-more, zeroed-all}
-use lib.ListN.{length-set}
-use lib.ListN.{length, replicate, drop}
+use lib.ListN.{length, length-set, replicate, drop}
 use borrow.Author.Fill.{fill-none}
 use Prim.Native.Nat.{_≤_, _-_}
 use mathlib.Core.List.{_++_}
@@ -16,23 +16,15 @@ Inv-loop s₀ i₀ s i = (i ≤ length s₀) × (length s ≡ length s₀) × (s
 abbrev μ-loop : tie.MeasureT-loop
 μ-loop s₀ i₀ s i = length s₀ - i
 
--- src/lib.rt:81:5
 loop-holds : tie.Need-loop-holds Inv-loop μ-loop
 loop-holds c = (omega arith, refl, fill-none _ 0)
 
--- src/lib.rt:81:5
-loop-less : tie.Need-loop-less Inv-loop μ-loop
-loop-less c = omega arith
-
--- src/lib.rt:81:5
 loop-again : tie.Need-loop-again Inv-loop μ-loop
 loop-again c = (omega arith, simp length-set (c .before .loop .inv .1), zeroed-more _ _ _ (c .before .loop .inv .2) (omega arith))
 
--- src/lib.rt:77:1
 same-length : tie.Need-same-length Inv-loop μ-loop
 same-length c = c .before .loop .inv .1
 
--- src/lib.rt:77:1
 returns : tie.Need-returns Inv-loop μ-loop
 returns c = zeroed-all _ _ _ (c .before .loop .inv .2) (c .before .loop .inv .0) (omega arith)
 
@@ -46,7 +38,7 @@ zero-spec =
     (λ c. search needs)
     (λ c. search needs)
     (λ c. search needs)
-    loop-less
+    (λ c. search needs)
     loop-again
     same-length
     returns)
