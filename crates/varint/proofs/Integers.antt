@@ -22,7 +22,7 @@ use mir.Facts.{toZ-pos, toZ-ofZ}
 use Rattle.varint.specs.Number.{Answer, done, refused, joined, reads, readBy, tenth, signed, written, bytesOf}
 use Rattle.varint.specs.Integer.{signedBytes, intBytes}
 use Rattle.varint.specs.Inner.{Stored, restAt}
-use Rattle.varint.proofs.Cases.{split}
+use Rattle.varint.proofs.Cases.{split, flag-small}
 use Rattle.varint.proofs.Reading.{Going, over, ended, last, more}
 use Rattle.varint.proofs.Writing.{spare, bytes-most, at-end, single, room-there, full, wrote-all}
 
@@ -137,10 +137,6 @@ length-int v f e h = h ∙ rw (e, toZ-ofZ f) (sym (sign-length (ltZ v (pos 0)) (
 pub ruleset sizes = (one-more-fits, below-zero, not-below-zero, length-one, length-small, length-more, length-int, needs)
 
 -- The writer puts a first byte, of the bits b, and the bytes of the rest of the magnitude.
-pub flag-small : (b : Bool) → cond b 64 0 ≤ 64
-flag-small true = omega arith
-flag-small false = omega arith
-
 pub flagged : (x : ℕ) {b : Bool} → b ≡ true → x + 64 ≡ x + cond b 64 0
 flagged x h = rw h
 
@@ -152,7 +148,7 @@ module _ (minus : Bool) (m : ℕ) {b : ℕ} (e : b ≡ m % 64 + cond minus 64 0)
   only-byte h = rw (e, mod-eq-of-lt h) (signed-last minus m h)
 
   pub first-fits : Fits w8 (128 + b)
-  first-fits = record { fits = omega (arith, e, flag-small minus) }
+  first-fits = record { fits = omega (arith, e, flag-small minus 64) }
 
   pub rest-put : {at : ℕ} {buf after : List ℕ} {p : ℕ} → Fits w64 m → 64 ≤ m → Stored (bytesOf (m / 64)) (set buf at (128 + b)) (at + 1) after p → Stored (signedBytes minus m) buf at after p
   rest-put fits h s =

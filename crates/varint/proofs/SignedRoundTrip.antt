@@ -18,10 +18,10 @@ use mir.Val.{toZ}
 use mir.Facts.{toZ-pos, toZ-neg}
 use Rattle.varint.specs.Number.{done, joined, andThen, reads, readBy, tenth, signed, written, Written, writeAt}
 use Rattle.varint.specs.Integer.{minusAt, signedOf, signedAt, plain, fitting, signedBytes, intBytes, wrongSign, writeSignedAt}
-use Rattle.varint.proofs.Cases.{split}
+use Rattle.varint.proofs.Cases.{split, flag-small}
 use Rattle.varint.proofs.RoundTrip.{Ready, back}
 use Rattle.varint.proofs.Chaining.{Put, put, put-read}
-use Rattle.varint.proofs.Integers.{first-joined, flag-small}
+use Rattle.varint.proofs.Integers.{first-joined}
 use Rattle.varint.proofs.Answers.{doneInt}
 
 -- the first byte, taken apart: six bits of the magnitude, and the minus bit; c is 128 where it goes on
@@ -50,7 +50,7 @@ module _ (minus : Bool) (m at : ℕ) (bytes rest : List ℕ) (e : drop at bytes 
       let s : m + cond minus 64 0 ≡ 0 + m % 64 + cond minus 64 0 = omega arith in
       let j : joined 64 0 0 ((m + cond minus 64 0) % 64) ≡ m = first-joined _ ∙ ap (λ (x : ℕ). x % 64) s ∙ low-bits minus 0 m refl ∙ omega arith in
       record {
-        pattern = rw (f, lt-ltb (m + cond minus 64 0) 128 (omega (arith, flag-small minus)), lt-ltb m 64 h, j);
+        pattern = rw (f, lt-ltb (m + cond minus 64 0) 128 (omega (arith, flag-small minus 64)), lt-ltb m 64 h, j);
         sign = rw (first-is bytes at _ rest f, s) (minus-on minus 0 m refl);
       }
 
