@@ -47,12 +47,16 @@ pub record Uniting (a : List ℕ) (n : ℕ) (b : List ℕ) (m most len : ℕ) (o
   pub same : length out ≡ len
   pub united : United 4294967296 (rowAt a) n i (rowAt b) m j most (rowAt out) k e
 
+-- what `rest`, `turn` and `run` ask of the tables and the output
+abbrev Asked : List ℕ → ℕ → List ℕ → ℕ → ℕ → List ℕ → ℕ → ℕ → ℕ → ℕ → Type 0
+Asked a n b m most out i j k e = Ruled a n × (Ruled b m × ((2 * most ≤ length out) × United 4294967296 (rowAt a) n i (rowAt b) m j most (rowAt out) k e))
+
 module _ {a : List ℕ} {n : ℕ} {b : List ℕ} {m most : ℕ} where
-  pub uniting-from : {out : List ℕ} {i j k e : ℕ} → Ruled a n → Ruled b m → 2 * most ≤ length out → United 4294967296 (rowAt a) n i (rowAt b) m j most (rowAt out) k e → Uniting a n b m most (length out) out i j k e
-  uniting-from p q r u = record { one = p; two = q; room = r; same = refl; united = u }
+  pub uniting-from : {out : List ℕ} {i j k e : ℕ} → Asked a n b m most out i j k e → Uniting a n b m most (length out) out i j k e
+  uniting-from h = record { one = h .0; two = h .1 .0; room = h .1 .1 .0; same = refl; united = h .1 .1 .1 }
 
   pub uniting-none : {out : List ℕ} → Ruled a n → Ruled b m → 2 * most ≤ length out → Uniting a n b m most (length out) out 0 0 0 0
-  uniting-none p q r = uniting-from p q r (united-none _ _ _ _ _ _ _)
+  uniting-none p q r = uniting-from (p, (q, (r, united-none _ _ _ _ _ _ _)))
 
   module _ {len : ℕ} {out : List ℕ} {i j k e : ℕ} (v : Uniting a n b m most len out i j k e) where
     -- what `join` asks
@@ -62,23 +66,19 @@ module _ {a : List ℕ} {n : ℕ} {b : List ℕ} {m most : ℕ} where
       (v .united .last, (omega (arith, v .united .few, v .one .few, v .two .few, v .united .one .within, v .united .two .within), (v .united .most, h))),
     )
 
-    -- what `rest` asks, where no row of the other table is left, and where none of this one is
-    pub uniting-left : m ≤ j → Ruled a n × (Ruled b m × ((2 * most ≤ length out) × United 4294967296 (rowAt a) n i (rowAt b) m m most (rowAt out) k e))
-    uniting-left h = (v .one, (v .two, (omega (arith, v .room, v .same), rest-right h (v .united))))
+    pub uniting-asked : Asked a n b m most out i j k e
+    uniting-asked = (v .one, (v .two, (omega (arith, v .room, v .same), v .united)))
 
-    pub uniting-right : n ≤ i → Ruled b m × (Ruled a n × ((2 * most ≤ length out) × United 4294967296 (rowAt b) m j (rowAt a) n n most (rowAt out) k e))
-    uniting-right h = (v .two, (v .one, (omega (arith, v .room, v .same), rest-left h (v .united))))
+    -- the same, where no row of the other table is left, and where none of this one is
+    pub uniting-left : m ≤ j → Asked a n b m most out i m k e
+    uniting-left h = (v .one, (v .two, (uniting-asked .1 .1 .0, rest-right h (v .united))))
 
-    -- what `turn` and `run` ask
-    pub uniting-turn : i < n → j < m → Ruled a n × (Ruled b m × ((2 * most ≤ length out) × (United 4294967296 (rowAt a) n i (rowAt b) m j most (rowAt out) k e × ((i < n) × (j < m)))))
-    uniting-turn h g = (v .one, (v .two, (omega (arith, v .room, v .same), (v .united, (h, g)))))
-
-    pub uniting-run : 0 < e → Ruled a n × (Ruled b m × ((2 * most ≤ length out) × (United 4294967296 (rowAt a) n i (rowAt b) m j most (rowAt out) k e × (0 < e))))
-    uniting-run h = (v .one, (v .two, (omega (arith, v .room, v .same), (v .united, h))))
+    pub uniting-right : n ≤ i → Asked b m a n most out j n k e
+    uniting-right h = (v .two, (v .one, (uniting-asked .1 .1 .0, rest-left h (v .united))))
 
     -- the output as it stands
     pub uniting-anew : Uniting a n b m most (length out) out i j k e
-    uniting-anew = uniting-from (v .one) (v .two) (omega (arith, v .room, v .same)) (v .united)
+    uniting-anew = uniting-from uniting-asked
 
     -- further rows are taken
     pub uniting-on : {out′ : List ℕ} {i′ j′ k′ e′ : ℕ} → length out′ ≡ length out → United 4294967296 (rowAt a) n i′ (rowAt b) m j′ most (rowAt out′) k′ e′ → Uniting a n b m most len out′ i′ j′ k′ e′
@@ -111,20 +111,13 @@ module _ {a : List ℕ} {n : ℕ} {b : List ℕ} {m most : ℕ} where
               (united-take 4294967296 (rowAt a) n (rowAt b) m most (λ _. refl) (λ _. refl) (ruled-links (v .one)) (ruled-links (v .two)) i j k e r x y f (rowAt out) (rowAt out′) h
               (w .start .on c ∙ s) (w .end .on c) (λ _. omega (arith, w .start .on c, t)) (v .united) d o z)
 
-  -- A STEP, where no row of the other table is left
+  -- A TURN, where no row of the other table is left
   module _ {len : ℕ} {out : List ℕ} {i k e x y : ℕ} (v : Uniting a n b m most len out i m k e) (h : i < n) (s : x ≡ rowAt a i .start) (t : y ≡ rowAt a i .end) where
     pub alone-asks : (2 * most ≤ length out) × (Last most (rowAt out) k e × ((k ≤ 2 * rowLimit) × ((e ≤ 4294967296) × (x < y))))
     alone-asks = uniting-asks v (omega (arith, s, t, v .one .ruled i h .filled))
 
     pub alone-more : {r f : ℕ} {out′ : List ℕ} → length out′ ≡ length out → Adds most (rowAt out) k e x y (rowAt out′) r → y < 4294967296 → f ≡ max e (y + 1) → Uniting a n b m most len out′ (i + 1) m r f
-    alone-more l d o z =
-        record {
-          one = v .one;
-          two = v .two;
-          room = v .room;
-          same = l ∙ v .same;
-          united = united-rest _ _ _ _ _ _ (λ _. refl) (λ _. refl) (ruled-links (v .one)) (ruled-links (v .two)) _ _ _ _ _ _ _ _ _ h s t (v .united) d o z;
-        }
+    alone-more l d o z = uniting-on v l (united-rest _ _ _ _ _ _ (λ _. refl) (λ _. refl) (ruled-links (v .one)) (ruled-links (v .two)) _ _ _ _ _ _ _ _ _ h s t (v .united) d o z)
 
 -- ## A run
 
@@ -138,10 +131,9 @@ pub record Running (a : List ℕ) (n : ℕ) (b : List ℕ) (m most len : ℕ) (o
   pub free : k + c ≤ most
 
 module _ {a : List ℕ} {n : ℕ} {b : List ℕ} {m most : ℕ} where
-  pub running-from : {out : List ℕ} {i j k e f p q c : ℕ} → Ruled a n → Ruled b m → 2 * most ≤ length out → United 4294967296 (rowAt a) n i (rowAt b) m j most (rowAt out) k e → e ≡ f + 1 → p ≡ rowAt a i .start → q ≡ rowAt b j .start
-      → 0 < c → c ≤ n - i - 1 → c ≤ m - j - 1 → c ≤ most - k → Running a n b m most (length out) out i j k f p q c
-  running-from {out} {i} {j} {k} t v w u h p q z l r f =
-      record { on = uniting-from t v w (subst (λ (s : ℕ). United 4294967296 (rowAt a) n i (rowAt b) m j most (rowAt out) k s) h u); one = p; two = q; left = omega arith; right = omega arith; free = omega arith }
+  pub running-from : {out : List ℕ} {i j k e f p q c : ℕ} → Asked a n b m most out i j k e → e ≡ f + 1 → p ≡ rowAt a i .start → q ≡ rowAt b j .start → 0 < c → c ≤ n - i - 1 → c ≤ m - j - 1 → c ≤ most - k → Running a n b m most (length out) out i j k f p q c
+  running-from {out} {i} {j} {k} v h s t z l r f =
+      record { on = subst (λ (x : ℕ). Uniting a n b m most (length out) out i j k x) h (uniting-from v); one = s; two = t; left = omega arith; right = omega arith; free = omega arith }
 
   module _ {len : ℕ} {out : List ℕ} {i j k e p q c : ℕ} (v : Running a n b m most len out i j k e p q c) (z : 0 < c) where
     module _ {x y i′ j′ : ℕ} (w : First (rowAt a) (rowAt b) i j p q x y i′ j′) where

@@ -156,6 +156,12 @@ fn higher(x: u32, y: u32) -> u32
     if x < y { y } else { x }
 }
 
+fn fewer(x: usize, y: usize) -> usize
+    ensures { λ r. ⌜ r ≡ min x y ⌝ }
+{
+    if x < y { x } else { y }
+}
+
 // ## Questions
 
 // How many rows the table has.
@@ -477,7 +483,7 @@ fn first(p: u32, q: u32, s: u32, t: u32) -> u32
     if q < p { t } else { s }
 }
 
-// The same with an index.
+// The same of indexes.
 fn index(p: u32, q: u32, i: usize, j: usize) -> usize
     ensures { λ r. ⌜ Picked p q i j r ⌝ }
 {
@@ -557,12 +563,12 @@ struct Taken {
 
 // One row is taken: the one that starts first.
 fn turn(a: &[u32], n: usize, b: &[u32], m: usize, out: &mut [u32], most: usize, w: Taken) -> Taken
+    requires { ⌜ w .i < n ⌝ }
+    requires { ⌜ w .j < m ⌝ }
     requires { ⌜ Ruled (now a) n ⌝ }
     requires { ⌜ Ruled (now b) m ⌝ }
     requires { ⌜ 2 * most ≤ length (now out) ⌝ }
     requires { ⌜ United 4294967296 (rowAt (now a)) n (w .i) (rowAt (now b)) m (w .j) most (rowAt (now out)) (w .k) (w .e) ⌝ }
-    requires { ⌜ w .i < n ⌝ }
-    requires { ⌜ w .j < m ⌝ }
     ensures { λ r. ⌜ United 4294967296 (rowAt (now (a .entry))) n (r .i) (rowAt (now (b .entry))) m (r .j) most (rowAt (now (out .exit))) (r .k) (r .e) ⌝ }
     ensures { λ r. ⌜ w .i + w .j < r .i + r .j ⌝ }
     ensures { λ r. ⌜ 0 < r .e ⌝ }
@@ -583,12 +589,6 @@ fn turn(a: &[u32], n: usize, b: &[u32], m: usize, out: &mut [u32], most: usize, 
         k: k,
         e: e,
     }
-}
-
-fn fewer(x: usize, y: usize) -> usize
-    ensures { λ r. ⌜ r ≡ min x y ⌝ }
-{
-    if x < y { x } else { y }
 }
 
 // How many turns surely fit: for all of them a row of either table is left, and one behind it, and room.
@@ -626,11 +626,11 @@ fn add(out: &mut [u32], most: usize, k: usize, e: u32, x: u32, y: u32) -> usize
 
 // As many turns as surely fit, with no test of the rows left nor of the room. The next starts are read before it is known which row is taken: so the loads wait for no comparison.
 fn run(a: &[u32], n: usize, b: &[u32], m: usize, out: &mut [u32], most: usize, w: Taken) -> Taken
+    requires { ⌜ 0 < w .e ⌝ }
     requires { ⌜ Ruled (now a) n ⌝ }
     requires { ⌜ Ruled (now b) m ⌝ }
     requires { ⌜ 2 * most ≤ length (now out) ⌝ }
     requires { ⌜ United 4294967296 (rowAt (now a)) n (w .i) (rowAt (now b)) m (w .j) most (rowAt (now out)) (w .k) (w .e) ⌝ }
-    requires { ⌜ 0 < w .e ⌝ }
     ensures { λ r. ⌜ United 4294967296 (rowAt (now (a .entry))) n (r .i) (rowAt (now (b .entry))) m (r .j) most (rowAt (now (out .exit))) (r .k) (r .e) ⌝ }
     ensures { λ r. ⌜ w .i + w .j ≤ r .i + r .j ⌝ }
 {

@@ -1,7 +1,6 @@
--- 2 * i + 2 is 2 * (i + 1).
-use mathlib.Core.Path.{ap}
+-- 2 * i + 2 is 2 * (i + 1). Assumes nothing.
+use mathlib.Core.Path.{_≡_, ap}
 use Prim.Native.Nat.{ℕ, _+_, _*_}
-use mathlib.Core.Path.{_≡_}
 use native.Mathlib.Omega.{arith}
 use lib.ListN.{getD}
 use borrow.Author.Needs.{needs}

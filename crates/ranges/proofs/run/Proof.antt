@@ -14,14 +14,14 @@ abbrev μ-loop : tie.MeasureT-loop
 μ-loop a n b m out₀ most c₀ i₀ j₀ k₀ e₀ p₀ q₀ out c i j k e p q = c
 
 returns : tie.Need-returns Inv-loop μ-loop
-returns c = let s : tie.Start Inv-loop μ-loop = search in (s .pre .1 .1 .1 .0, omega arith)
+returns c = let s : tie.Start Inv-loop μ-loop = search in (s .pre .1 .1 .1 .1, omega arith)
 
 loop-holds : tie.Need-loop-holds Inv-loop μ-loop
 loop-holds c =
     let t : tie.Else1 Inv-loop μ-loop = search in
     let s : tie.Start Inv-loop μ-loop = search in
     let f = t .before .fitting .ensures in
-    (running-from (s .pre .0) (s .pre .1 .0) (s .pre .1 .1 .0) (s .pre .1 .1 .1 .0) (omega (arith, s .pre .1 .1 .1 .1)) (c .before .start-at .ensures) (c .start-at2 .ensures) (omega (arith, t .if1 .left)) (f .0) (f .1 .0) (f .1 .1), omega arith)
+    (running-from (s .pre .1) (omega (arith, s .pre .0)) (c .before .start-at .ensures) (c .start-at2 .ensures) (omega (arith, t .if1 .left)) (f .0) (f .1 .0) (f .1 .1), omega arith)
 
 next-start-requires : tie.Need-next-start-requires Inv-loop μ-loop
 next-start-requires c κs = let l : tie.At-loop Inv-loop μ-loop = search in omega (arith, l .loop .inv .0 .left, l .loop .inv .0 .on .one .fits)

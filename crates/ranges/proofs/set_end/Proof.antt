@@ -1,3 +1,4 @@
+-- A store at 2 * k + 1 changes the end of row k and no row below. Assumes nothing.
 use native.Mathlib.Omega.{arith}
 use Rattle.ranges.proofs.Stores.{grown-below, grown-at}
 use borrow.Author.Needs.{needs}

@@ -1,3 +1,4 @@
+-- A store at 2 * k changes the start of row k and no row below. Assumes nothing.
 use native.Mathlib.Omega.{arith}
 use Rattle.ranges.proofs.Stores.{started-below, started-at}
 use borrow.Author.Needs.{needs}

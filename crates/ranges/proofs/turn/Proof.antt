@@ -12,9 +12,9 @@ join-requires c κs =
     let e : tie.After-end-at2 = search in
     let p : tie.After-start-at2 = search in
     let s : tie.Start = search in
-    let v = uniting-from {out = s .args .out .now} (s .pre .0) (s .pre .1 .0) (s .pre .1 .1 .0) (s .pre .1 .1 .1 .0) in
+    let v = uniting-from {out = s .args .out .now} (s .pre .1 .1) in
     let w = first-of (e .before .end-at .ensures) (e .end-at2 .ensures) (f .before .first .ensures) (f .first2 .ensures) (i .index .ensures) (c .before .index2 .ensures) in
-    uniting-asks v (first-filled v (s .pre .1 .1 .1 .1 .0) (s .pre .1 .1 .1 .1 .1) (p .before .start-at .ensures) (p .start-at2 .ensures) w)
+    uniting-asks v (first-filled v (s .pre .0) (s .pre .1 .0) (p .before .start-at .ensures) (p .start-at2 .ensures) w)
 
 returns : tie.Need-returns
 returns c =
@@ -24,9 +24,9 @@ returns c =
     let e : tie.After-end-at2 = search in
     let p : tie.After-start-at2 = search in
     let s : tie.Start = search in
-    let v = uniting-from {out = s .args .out .now} (s .pre .0) (s .pre .1 .0) (s .pre .1 .1 .0) (s .pre .1 .1 .1 .0) in
+    let v = uniting-from {out = s .args .out .now} (s .pre .1 .1) in
     let w = first-of (e .before .end-at .ensures) (e .end-at2 .ensures) (f .before .first .ensures) (f .first2 .ensures) (i .index .ensures) (j .before .before .index2 .ensures) in (
-      first-more v (s .pre .1 .1 .1 .1 .0) (s .pre .1 .1 .1 .1 .1) (p .before .start-at .ensures) (p .start-at2 .ensures) w {out′ = j .join .last .0} (j .join .kept .0) (j .join .ensures) (omega (arith, f .first2 .ok)) (c .further .ensures) .united,
+      first-more v (s .pre .0) (s .pre .1 .0) (p .before .start-at .ensures) (p .start-at2 .ensures) w {out′ = j .join .last .0} (j .join .kept .0) (j .join .ensures) (omega (arith, f .first2 .ok)) (c .further .ensures) .united,
       (omega (arith, first-moves w), omega (arith, c .further .ensures)),
     )
 
