@@ -63,6 +63,14 @@ fn end_at(t: &[u32], i: usize) -> u32
     t[2 * i + 1]
 }
 
+// The start of the row behind row `i`.
+fn next_start(t: &[u32], i: usize) -> u32
+    requires { ⌜ 2 * i + 3 < length (now t) ⌝ }
+    ensures { λ r. ⌜ r ≡ rowAt (now (t .entry)) (i + 1) .start ⌝ }
+{
+    t[2 * i + 2]
+}
+
 // Whether the first `n` rows of `t` are a table. No early exit: the pass over the rows becomes SIMD.
 fn well_formed(t: &[u32], n: usize) -> bool
     ensures { λ r. ⌜ Says (Ruled (now (t .entry)) n) r ⌝ }
@@ -92,12 +100,26 @@ fn both(a: &[u32], n: usize, b: &[u32], m: usize) -> bool
     p & q
 }
 
+fn set_start(out: &mut [u32], k: usize, x: u32)
+    requires { ⌜ 2 * k + 1 < length (now out) ⌝ }
+    ensures { λ r. ⌜ ((most : ℕ) → Starts most (rowAt (now (out .entry))) k x (rowAt (now (out .exit)))) ⌝ }
+{
+    out[2 * k] = x;
+}
+
+fn set_end(out: &mut [u32], k: usize, y: u32)
+    requires { ⌜ 2 * k + 1 < length (now out) ⌝ }
+    ensures { λ r. ⌜ ((most : ℕ) → Ends most (rowAt (now (out .entry))) k y (rowAt (now (out .exit)))) ⌝ }
+{
+    out[2 * k + 1] = y;
+}
+
 fn store_start(out: &mut [u32], most: usize, k: usize, x: u32)
     requires { ⌜ 2 * most ≤ length (now out) ⌝ }
     ensures { λ r. ⌜ Starts most (rowAt (now (out .entry))) k x (rowAt (now (out .exit))) ⌝ }
 {
     if k < most {
-        out[2 * k] = x;
+        set_start(out, k, x);
     }
 }
 
@@ -106,7 +128,7 @@ fn store_end(out: &mut [u32], most: usize, k: usize, y: u32)
     ensures { λ r. ⌜ Ends most (rowAt (now (out .entry))) k y (rowAt (now (out .exit))) ⌝ }
 {
     if k < most {
-        out[2 * k + 1] = y;
+        set_end(out, k, y);
     }
 }
 
@@ -132,6 +154,12 @@ fn higher(x: u32, y: u32) -> u32
     ensures { λ r. ⌜ r ≡ max x y ⌝ }
 {
     if x < y { y } else { x }
+}
+
+fn fewer(x: usize, y: usize) -> usize
+    ensures { λ r. ⌜ r ≡ min x y ⌝ }
+{
+    if x < y { x } else { y }
 }
 
 // ## Questions
@@ -448,13 +476,6 @@ fn passed(i: usize, p: u32, x: u32) -> usize
     if p <= x { i + 1 } else { i }
 }
 
-// `next` of the next row, where `p` of this one is not past `x`. It is read before that is known: so the loads wait for no comparison.
-fn onward(p: u32, x: u32, next: u32) -> u32
-    ensures { λ r. ⌜ Picked p x next p r ⌝ }
-{
-    if p <= x { next } else { p }
-}
-
 // What belongs to the row that starts first, at `p` or at `q`: of two that start together, the left one.
 fn first(p: u32, q: u32, s: u32, t: u32) -> u32
     ensures { λ r. ⌜ Picked p q s t r ⌝ }
@@ -462,12 +483,11 @@ fn first(p: u32, q: u32, s: u32, t: u32) -> u32
     if q < p { t } else { s }
 }
 
-// The next row, where the left one at `p` is not the first.
-fn waited(j: usize, p: u32, q: u32) -> usize
-    requires { ⌜ j ≤ rowLimit ⌝ }
-    ensures { λ r. ⌜ Picked p q j (j + 1) r ⌝ }
+// The same of indexes.
+fn index(p: u32, q: u32, i: usize, j: usize) -> usize
+    ensures { λ r. ⌜ Picked p q i j r ⌝ }
 {
-    if q < p { j + 1 } else { j }
+    if q < p { j } else { i }
 }
 
 // One row more, where it starts past the last.
@@ -533,38 +553,145 @@ fn rest(
     k
 }
 
-// The rows of the union, a row a step, as many as there is room for, and how many there are.
+// How far the union has come: `i` and `j` rows are taken, `k` rows are put out, and `e` is one more than the end of the last, 0 where there is none.
+struct Taken {
+    i: usize,
+    j: usize,
+    k: usize,
+    e: u64,
+}
+
+// One row is taken: the one that starts first.
+fn turn(a: &[u32], n: usize, b: &[u32], m: usize, out: &mut [u32], most: usize, w: Taken) -> Taken
+    requires { ⌜ w .i < n ⌝ }
+    requires { ⌜ w .j < m ⌝ }
+    requires { ⌜ Ruled (now a) n ⌝ }
+    requires { ⌜ Ruled (now b) m ⌝ }
+    requires { ⌜ 2 * most ≤ length (now out) ⌝ }
+    requires { ⌜ United 4294967296 (rowAt (now a)) n (w .i) (rowAt (now b)) m (w .j) most (rowAt (now out)) (w .k) (w .e) ⌝ }
+    ensures { λ r. ⌜ United 4294967296 (rowAt (now (a .entry))) n (r .i) (rowAt (now (b .entry))) m (r .j) most (rowAt (now (out .exit))) (r .k) (r .e) ⌝ }
+    ensures { λ r. ⌜ w .i + w .j < r .i + r .j ⌝ }
+    ensures { λ r. ⌜ 0 < r .e ⌝ }
+{
+    let p = start_at(a, w.i);
+    let q = start_at(b, w.j);
+    let s = end_at(a, w.i);
+    let t = end_at(b, w.j);
+    let x = first(p, q, p, q);
+    let y = first(p, q, s, t);
+    let i = index(p, q, w.i + 1, w.i);
+    let j = index(p, q, w.j, w.j + 1);
+    let k = join(out, most, w.k, w.e, x, y);
+    let e = further(w.e, y);
+    Taken {
+        i: i,
+        j: j,
+        k: k,
+        e: e,
+    }
+}
+
+// How many turns surely fit: for all of them a row of either table is left, and one behind it, and room.
+fn fitting(n: usize, m: usize, most: usize, w: Taken) -> usize
+    ensures { λ r. ⌜ r ≤ n - w .i - 1 ⌝ }
+    ensures { λ r. ⌜ r ≤ m - w .j - 1 ⌝ }
+    ensures { λ r. ⌜ r ≤ most - w .k ⌝ }
+{
+    if n <= w.i {
+        return 0;
+    }
+    if m <= w.j {
+        return 0;
+    }
+    if most <= w.k {
+        return 0;
+    }
+    fewer(fewer(n - w.i - 1, m - w.j - 1), most - w.k)
+}
+
+// `join` where there is a last row, which ends at `e`, and room.
+fn add(out: &mut [u32], most: usize, k: usize, e: u32, x: u32, y: u32) -> usize
+    requires { ⌜ 2 * most ≤ length (now out) ⌝ }
+    requires { ⌜ Last most (rowAt (now out)) k (e + 1) ⌝ }
+    requires { ⌜ k ≤ 2 * rowLimit ⌝ }
+    requires { ⌜ k < most ⌝ }
+    requires { ⌜ x < y ⌝ }
+    ensures { λ r. ⌜ Adds most (rowAt (now (out .entry))) k (e + 1) x y (rowAt (now (out .exit))) r ⌝ }
+{
+    set_start(out, k, x);
+    let r = counted(k, e as u64 + 1, x);
+    set_end(out, r - 1, higher(e, y));
+    r
+}
+
+// As many turns as surely fit, with no test of the rows left nor of the room. The next starts are read before it is known which row is taken: so the loads wait for no comparison.
+fn run(a: &[u32], n: usize, b: &[u32], m: usize, out: &mut [u32], most: usize, w: Taken) -> Taken
+    requires { ⌜ 0 < w .e ⌝ }
+    requires { ⌜ Ruled (now a) n ⌝ }
+    requires { ⌜ Ruled (now b) m ⌝ }
+    requires { ⌜ 2 * most ≤ length (now out) ⌝ }
+    requires { ⌜ United 4294967296 (rowAt (now a)) n (w .i) (rowAt (now b)) m (w .j) most (rowAt (now out)) (w .k) (w .e) ⌝ }
+    ensures { λ r. ⌜ United 4294967296 (rowAt (now (a .entry))) n (r .i) (rowAt (now (b .entry))) m (r .j) most (rowAt (now (out .exit))) (r .k) (r .e) ⌝ }
+    ensures { λ r. ⌜ w .i + w .j ≤ r .i + r .j ⌝ }
+{
+    let mut c = fitting(n, m, most, w);
+    if c == 0 {
+        return w;
+    }
+    let mut i = w.i;
+    let mut j = w.j;
+    let mut k = w.k;
+    let mut e = (w.e - 1) as u32;
+    let mut p = start_at(a, i);
+    let mut q = start_at(b, j);
+    while 0 < c {
+        let u = next_start(a, i);
+        let v = next_start(b, j);
+        let s = end_at(a, i);
+        let t = end_at(b, j);
+        let x = first(p, q, p, q);
+        let y = first(p, q, s, t);
+        i = index(p, q, i + 1, i);
+        j = index(p, q, j, j + 1);
+        k = add(out, most, k, e, x, y);
+        e = higher(e, y);
+        let o = first(p, q, q, v);
+        p = first(p, q, u, p);
+        q = o;
+        c -= 1;
+    }
+    Taken {
+        i: i,
+        j: j,
+        k: k,
+        e: e as u64 + 1,
+    }
+}
+
+// The rows of the union, as many as there is room for, and how many there are. Each run leaves about half of the turns; the last few go one by one.
 fn unite(a: &[u32], n: usize, b: &[u32], m: usize, out: &mut [u32], most: usize) -> usize
     requires { ⌜ Ruled (now a) n ⌝ }
     requires { ⌜ Ruled (now b) m ⌝ }
     requires { ⌜ 2 * most ≤ length (now out) ⌝ }
     ensures { λ r. ⌜ Holds most (rowAt (now (out .exit))) r (combined union (rowsOf (now (a .entry)) n) (rowsOf (now (b .entry)) m)) ⌝ }
 {
-    let mut i: usize = 0;
-    let mut j: usize = 0;
-    let mut k: usize = 0;
-    let mut e: u64 = 0;
-    let mut p = start_or(a, n, 0, 0);
-    let mut q = start_or(b, m, 0, 0);
-    while i < n {
-        if m <= j {
-            return rest(a, n, i, b, m, out, most, k, e);
-        }
-        let u = start_or(a, n, i + 1, 0);
-        let v = start_or(b, m, j + 1, 0);
-        let s = end_at(a, i);
-        let t = end_at(b, j);
-        let x = lower(p, q);
-        let y = first(p, q, s, t);
-        i = passed(i, p, x);
-        j = waited(j, p, q);
-        k = join(out, most, k, e, x, y);
-        e = further(e, y);
-        let w = first(p, q, q, v);
-        p = onward(p, x, u);
-        q = w;
+    let mut w = Taken {
+        i: 0,
+        j: 0,
+        k: 0,
+        e: 0,
+    };
+    while 4 < fitting(n, m, most, w) {
+        let z = turn(a, n, b, m, out, most, w);
+        w = run(a, n, b, m, out, most, z);
     }
-    rest(b, m, j, a, n, out, most, k, e)
+    while w.i < n {
+        if m <= w.j {
+            return rest(a, n, w.i, b, m, out, most, w.k, w.e);
+        }
+        w = turn(a, n, b, m, out, most, w);
+    }
+    rest(b, m, w.j, a, n, out, most, w.k, w.e)
 }
 
 // Union.

@@ -15,7 +15,7 @@ abbrev μ-loop : tie.MeasureT-loop
 μ-loop a n i0 b m out₀ most k0 e0 i₀ k₀ e₀ out i k e = n - i
 
 loop-holds : tie.Need-loop-holds Inv-loop μ-loop
-loop-holds c = let s : tie.Start Inv-loop μ-loop = search in uniting-from (s .pre .0) (s .pre .1 .0) (s .pre .1 .1 .0) (s .pre .1 .1 .1)
+loop-holds c = let s : tie.Start Inv-loop μ-loop = search in uniting-from (s .pre)
 
 join-requires : tie.Need-join-requires Inv-loop μ-loop
 join-requires c κs =

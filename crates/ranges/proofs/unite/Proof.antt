@@ -1,72 +1,109 @@
--- The invariant: i rows of the one table and j of the other are taken, what was put out is their union, and p and q are the next starts. Assumes nothing.
+-- The invariant of both loops: i rows of the one table and j of the other are taken, and what was put out is their union. Assumes nothing.
+use mathlib.Core.Path.{_∙_}
 use Prim.Native.Nat.{_+_, _-_}
 use native.Mathlib.Omega.{arith}
 use lib.ListN.{length}
 use borrow.Author.Needs.{needs}
-use Rattle.tables.specs.Inner.Edit.{Starting}
 use Rattle.tables.proofs.Uniting.{holds-other}
 use Rattle.tables.proofs.Meaning.{union-comm}
-use Rattle.ranges.specs.Inner.{rowAt}
-use Rattle.ranges.proofs.Uniting.{First, first-of, Uniting, uniting-none, uniting-left, uniting-right, first-asks, first-less, first-more, passed-starting, picked-starting}
+use Rattle.ranges.proofs.Uniting.{Uniting, uniting-none, uniting-asked, uniting-left, uniting-right, uniting-anew, uniting-on}
 use Rattle.ranges.proofs.unite.Statement.{statement}
 use Rattle.ranges.proofs.unite.Tie as tie
 
 abbrev Inv-loop : tie.InvT-loop
-Inv-loop a n b m out₀ most i₀ j₀ k₀ e₀ p₀ q₀ out i j k e p q = Uniting a n b m most (length out₀) out i j k e × Starting (rowAt a) n i 0 p × Starting (rowAt b) m j 0 q
+Inv-loop a n b m out₀ most w₀ out w = Uniting a n b m most (length out₀) out (w .i) (w .j) (w .k) (w .e)
 
 abbrev μ-loop : tie.MeasureT-loop
-μ-loop a n b m out₀ most i₀ j₀ k₀ e₀ p₀ q₀ out i j k e p q = (n + m) - (i + j)
+μ-loop a n b m out₀ most w₀ out w = (n + m) - (w .i + w .j)
 
--- a turn, where a row of either table is left; and the row that starts first, found
-abbrev Turn : Type 0
-Turn = tie.Else1 Inv-loop μ-loop
+abbrev Inv-loop2 : tie.InvT-loop2
+Inv-loop2 a n b m out₀ most w₀ out w = Uniting a n b m most (length out₀) out (w .i) (w .j) (w .k) (w .e)
 
-abbrev Found : Type 0
-Found = tie.After-waited Inv-loop μ-loop
+abbrev μ-loop2 : tie.MeasureT-loop2
+μ-loop2 a n b m out₀ most w₀ out w = (n + m) - (w .i + w .j)
 
-first : (c : Found) → let s : tie.Start Inv-loop μ-loop = search in let l : tie.At-loop Inv-loop μ-loop = search in
-    First (rowAt (s .args .a .now)) (rowAt (s .args .b .now)) (l .loop .i) (l .loop .j) (l .loop .p) (l .loop .q) (c .before .before .before .lower .result) (c .before .before .first .result) (c .before .passed .result) (c .waited .result)
-first c =
-    let e : tie.After-end-at2 Inv-loop μ-loop = search in
-    first-of (e .before .end-at .ensures) (e .end-at2 .ensures) (c .before .before .before .lower .ensures) (c .before .before .first .ensures) (c .before .passed .ensures) (c .waited .ensures)
+loop-holds : tie.Need-loop-holds Inv-loop μ-loop Inv-loop2 μ-loop2
+loop-holds c = let s : tie.Start Inv-loop μ-loop Inv-loop2 μ-loop2 = search in uniting-none (s .pre .0) (s .pre .1 .0) (s .pre .1 .1)
 
-loop-holds : tie.Need-loop-holds Inv-loop μ-loop
-loop-holds c = let s : tie.Start Inv-loop μ-loop = search in (uniting-none (s .pre .0) (s .pre .1 .0) (s .pre .1 .1), c .before .start-or .ensures, c .start-or2 .ensures)
+turn-requires : tie.Need-turn-requires Inv-loop μ-loop Inv-loop2 μ-loop2
+turn-requires c κs =
+    let t : tie.Then1 Inv-loop μ-loop Inv-loop2 μ-loop2 = search in
+    let f = t .before .fitting .ensures in
+    (omega (arith, f .0, t .if1 .taken), (omega (arith, f .1 .0, t .if1 .taken), uniting-asked (t .before .before .loop .inv)))
 
-rest-requires : tie.Need-rest-requires Inv-loop μ-loop
-rest-requires c κs = let t : tie.Then1 Inv-loop μ-loop = search in uniting-left (t .before .before .loop .inv .0) (t .if1 .taken)
+run-requires : tie.Need-run-requires Inv-loop μ-loop Inv-loop2 μ-loop2
+run-requires c κs =
+    let t : tie.After-turn Inv-loop μ-loop Inv-loop2 μ-loop2 = search in
+    let l : tie.At-loop Inv-loop μ-loop Inv-loop2 μ-loop2 = search in
+    (t .turn .ensures .1 .1, uniting-asked (uniting-on (l .loop .inv) {out′ = t .turn .last .1 .1 .1 .1 .0} (t .turn .kept .1 .1 .1 .1 .0) (t .turn .ensures .0)))
 
-join-requires : tie.Need-join-requires Inv-loop μ-loop
-join-requires c κs =
-    let f : Found = search in
-    let t : Turn = search in
-    let v = t .before .before .loop .inv in
-    first-asks (v .0) (t .before .loop-test .taken) (t .if1 .left) (v .1) (v .2) (first f)
-
-loop-less : tie.Need-loop-less Inv-loop μ-loop
+loop-less : tie.Need-loop-less Inv-loop μ-loop Inv-loop2 μ-loop2
 loop-less c =
-    let f : Found = search in
-    let t : Turn = search in
-    let v = t .before .before .loop .inv in
-    first-less (v .0) (t .before .loop-test .taken) (t .if1 .left) (v .1) (v .2) (first f)
+    let r : tie.After-run Inv-loop μ-loop Inv-loop2 μ-loop2 = search in
+    let t : tie.After-turn Inv-loop μ-loop Inv-loop2 μ-loop2 = search in
+    let i : tie.Then1 Inv-loop μ-loop Inv-loop2 μ-loop2 = search in
+    omega (arith, r .run .ensures .1, t .turn .ensures .1 .0, i .before .fitting .ensures .0, i .if1 .taken, i .before .before .loop .inv .united .two .within)
 
-loop-again : tie.Need-loop-again Inv-loop μ-loop
+loop-again : tie.Need-loop-again Inv-loop μ-loop Inv-loop2 μ-loop2
 loop-again c =
-    let j : tie.After-join Inv-loop μ-loop = search in
-    let f : Found = search in
-    let o : tie.After-start-or4 Inv-loop μ-loop = search in
-    let t : Turn = search in
-    let v = t .before .before .loop .inv in (
-      first-more (v .0) (t .before .loop-test .taken) (t .if1 .left) (v .1) (v .2) (first f) (j .join .kept .0) (j .join .ensures) (omega (arith, f .before .before .first .ok)) (c .before .before .further .ensures),
-      passed-starting (v .1) (o .before .start-or3 .ensures) (f .before .passed .ensures) (c .onward .ensures),
-      picked-starting (v .2) (o .start-or4 .ensures) (f .waited .ensures) (c .before .first2 .ensures),
-    )
+    let r : tie.After-run Inv-loop μ-loop Inv-loop2 μ-loop2 = search in
+    let t : tie.After-turn Inv-loop μ-loop Inv-loop2 μ-loop2 = search in
+    let l : tie.At-loop Inv-loop μ-loop Inv-loop2 μ-loop2 = search in
+    uniting-on (l .loop .inv) (r .run .kept .1 .1 .1 .1 .0 ∙ t .turn .kept .1 .1 .1 .1 .0) (r .run .ensures .0)
 
-rest-requires-2 : tie.Need-rest-requires-2 Inv-loop μ-loop
-rest-requires-2 c κs = uniting-right (c .before .before .loop .inv .0) (c .before .loop-test .left)
+loop2-holds : tie.Need-loop2-holds Inv-loop μ-loop Inv-loop2 μ-loop2
+loop2-holds c = let l : tie.At-loop Inv-loop μ-loop Inv-loop2 μ-loop2 = search in uniting-anew (l .loop .inv)
 
-returns-2 : tie.Need-returns-2 Inv-loop μ-loop
-returns-2 c = holds-other (union-comm _ _) (c .before .before .rest2 .ensures)
+rest-requires : tie.Need-rest-requires Inv-loop μ-loop Inv-loop2 μ-loop2
+rest-requires c κs =
+    let t : tie.Then3 Inv-loop μ-loop Inv-loop2 μ-loop2 = search in
+    let l : tie.At-loop2 Inv-loop μ-loop Inv-loop2 μ-loop2 = search in
+    uniting-left (l .loop2 .inv) (t .if3 .taken)
+
+same-length : tie.Need-same-length Inv-loop μ-loop Inv-loop2 μ-loop2
+same-length c =
+    let r : tie.After-rest Inv-loop μ-loop Inv-loop2 μ-loop2 = search in
+    let l2 : tie.At-loop2 Inv-loop μ-loop Inv-loop2 μ-loop2 = search in
+    let l : tie.At-loop Inv-loop μ-loop Inv-loop2 μ-loop2 = search in
+    r .rest .kept .1 .1 .1 .1 .1 .0 ∙ (l2 .loop2 .inv .same ∙ l .loop .inv .same)
+
+turn-requires-2 : tie.Need-turn-requires-2 Inv-loop μ-loop Inv-loop2 μ-loop2
+turn-requires-2 c κs =
+    let t : tie.Else3 Inv-loop μ-loop Inv-loop2 μ-loop2 = search in
+    let l : tie.At-loop2 Inv-loop μ-loop Inv-loop2 μ-loop2 = search in
+    let i : tie.Then2 Inv-loop μ-loop Inv-loop2 μ-loop2 = search in
+    (i .if2 .taken, (t .if3 .left, uniting-asked (l .loop2 .inv)))
+
+loop2-less : tie.Need-loop2-less Inv-loop μ-loop Inv-loop2 μ-loop2
+loop2-less c =
+    let t : tie.After-turn2 Inv-loop μ-loop Inv-loop2 μ-loop2 = search in
+    let l : tie.At-loop2 Inv-loop μ-loop Inv-loop2 μ-loop2 = search in
+    let i : tie.Then2 Inv-loop μ-loop Inv-loop2 μ-loop2 = search in
+    omega (arith, t .turn2 .ensures .1 .0, i .if2 .taken, l .loop2 .inv .united .two .within)
+
+loop2-again : tie.Need-loop2-again Inv-loop μ-loop Inv-loop2 μ-loop2
+loop2-again c =
+    let t : tie.After-turn2 Inv-loop μ-loop Inv-loop2 μ-loop2 = search in
+    let l : tie.At-loop2 Inv-loop μ-loop Inv-loop2 μ-loop2 = search in
+    uniting-on (l .loop2 .inv) (t .turn2 .kept .1 .1 .1 .1 .0) (t .turn2 .ensures .0)
+
+rest-requires-2 : tie.Need-rest-requires-2 Inv-loop μ-loop Inv-loop2 μ-loop2
+rest-requires-2 c κs =
+    let t : tie.Else2 Inv-loop μ-loop Inv-loop2 μ-loop2 = search in
+    let l : tie.At-loop2 Inv-loop μ-loop Inv-loop2 μ-loop2 = search in
+    uniting-right (l .loop2 .inv) (t .if2 .left)
+
+same-length-2 : tie.Need-same-length-2 Inv-loop μ-loop Inv-loop2 μ-loop2
+same-length-2 c =
+    let r : tie.After-rest2 Inv-loop μ-loop Inv-loop2 μ-loop2 = search in
+    let l2 : tie.At-loop2 Inv-loop μ-loop Inv-loop2 μ-loop2 = search in
+    let l : tie.At-loop Inv-loop μ-loop Inv-loop2 μ-loop2 = search in
+    r .rest2 .kept .1 .1 .1 .1 .1 .0 ∙ (l2 .loop2 .inv .same ∙ l .loop .inv .same)
+
+returns-2 : tie.Need-returns-2 Inv-loop μ-loop Inv-loop2 μ-loop2
+returns-2 c =
+    let r : tie.After-rest2 Inv-loop μ-loop Inv-loop2 μ-loop2 = search in
+    holds-other (union-comm _ _) (r .rest2 .ensures)
 
 pub unite-spec : {M : Type 1} → statement M
 unite-spec =
@@ -74,28 +111,21 @@ unite-spec =
     (tie.spec
     Inv-loop
     μ-loop
-    (λ c κs. search needs)
-    (λ c κs. search needs)
+    Inv-loop2
+    μ-loop2
     loop-holds
-    rest-requires
-    (λ c. search needs)
-    (λ c. search needs)
-    (λ c. search needs)
     (λ c κs. search needs)
-    (λ c. search needs)
-    (λ c κs. search needs)
-    (λ c κs. search needs)
-    (λ c κs. search needs)
-    (λ c κs. search needs)
-    (λ c κs. search needs)
-    (λ c κs. search needs)
-    (λ c κs. search needs)
-    join-requires
-    (λ c κs. search needs)
-    (λ c κs. search needs)
-    (λ c κs. search needs)
+    turn-requires
+    run-requires
     loop-less
     loop-again
-    rest-requires-2
+    loop2-holds
+    rest-requires
+    same-length
     (λ c. search needs)
+    turn-requires-2
+    loop2-less
+    loop2-again
+    rest-requires-2
+    same-length-2
     returns-2)
