@@ -47,12 +47,12 @@ pub record Uniting (a : List ℕ) (n : ℕ) (b : List ℕ) (m most len : ℕ) (o
   pub same : length out ≡ len
   pub united : United 4294967296 (rowAt a) n i (rowAt b) m j most (rowAt out) k e
 
--- what `rest`, `turn` and `run` ask of the tables and the output
-abbrev Asked : List ℕ → ℕ → List ℕ → ℕ → ℕ → List ℕ → ℕ → ℕ → ℕ → ℕ → Type 0
-Asked a n b m most out i j k e = Ruled a n × (Ruled b m × ((2 * most ≤ length out) × United 4294967296 (rowAt a) n i (rowAt b) m j most (rowAt out) k e))
+-- what `rest`, `turn` and `run` are given
+abbrev Given : List ℕ → ℕ → List ℕ → ℕ → ℕ → List ℕ → ℕ → ℕ → ℕ → ℕ → Type 0
+Given a n b m most out i j k e = Ruled a n × (Ruled b m × ((2 * most ≤ length out) × United 4294967296 (rowAt a) n i (rowAt b) m j most (rowAt out) k e))
 
 module _ {a : List ℕ} {n : ℕ} {b : List ℕ} {m most : ℕ} where
-  pub uniting-from : {out : List ℕ} {i j k e : ℕ} → Asked a n b m most out i j k e → Uniting a n b m most (length out) out i j k e
+  pub uniting-from : {out : List ℕ} {i j k e : ℕ} → Given a n b m most out i j k e → Uniting a n b m most (length out) out i j k e
   uniting-from h = record { one = h .0; two = h .1 .0; room = h .1 .1 .0; same = refl; united = h .1 .1 .1 }
 
   pub uniting-none : {out : List ℕ} → Ruled a n → Ruled b m → 2 * most ≤ length out → Uniting a n b m most (length out) out 0 0 0 0
@@ -66,19 +66,19 @@ module _ {a : List ℕ} {n : ℕ} {b : List ℕ} {m most : ℕ} where
       (v .united .last, (omega (arith, v .united .few, v .one .few, v .two .few, v .united .one .within, v .united .two .within), (v .united .most, h))),
     )
 
-    pub uniting-asked : Asked a n b m most out i j k e
-    uniting-asked = (v .one, (v .two, (omega (arith, v .room, v .same), v .united)))
+    pub uniting-given : Given a n b m most out i j k e
+    uniting-given = (v .one, (v .two, (omega (arith, v .room, v .same), v .united)))
 
     -- the same, where no row of the other table is left, and where none of this one is
-    pub uniting-left : m ≤ j → Asked a n b m most out i m k e
-    uniting-left h = (v .one, (v .two, (uniting-asked .1 .1 .0, rest-right h (v .united))))
+    pub uniting-left : m ≤ j → Given a n b m most out i m k e
+    uniting-left h = (v .one, (v .two, (uniting-given .1 .1 .0, rest-right h (v .united))))
 
-    pub uniting-right : n ≤ i → Asked b m a n most out j n k e
-    uniting-right h = (v .two, (v .one, (uniting-asked .1 .1 .0, rest-left h (v .united))))
+    pub uniting-right : n ≤ i → Given b m a n most out j n k e
+    uniting-right h = (v .two, (v .one, (uniting-given .1 .1 .0, rest-left h (v .united))))
 
     -- the output as it stands
     pub uniting-anew : Uniting a n b m most (length out) out i j k e
-    uniting-anew = uniting-from uniting-asked
+    uniting-anew = uniting-from uniting-given
 
     -- further rows are taken
     pub uniting-on : {out′ : List ℕ} {i′ j′ k′ e′ : ℕ} → length out′ ≡ length out → United 4294967296 (rowAt a) n i′ (rowAt b) m j′ most (rowAt out′) k′ e′ → Uniting a n b m most len out′ i′ j′ k′ e′
@@ -131,7 +131,7 @@ pub record Running (a : List ℕ) (n : ℕ) (b : List ℕ) (m most len : ℕ) (o
   pub free : k + c ≤ most
 
 module _ {a : List ℕ} {n : ℕ} {b : List ℕ} {m most : ℕ} where
-  pub running-from : {out : List ℕ} {i j k e f p q c : ℕ} → Asked a n b m most out i j k e → e ≡ f + 1 → p ≡ rowAt a i .start → q ≡ rowAt b j .start → 0 < c → c ≤ n - i - 1 → c ≤ m - j - 1 → c ≤ most - k → Running a n b m most (length out) out i j k f p q c
+  pub running-from : {out : List ℕ} {i j k e f p q c : ℕ} → Given a n b m most out i j k e → e ≡ f + 1 → p ≡ rowAt a i .start → q ≡ rowAt b j .start → 0 < c → c ≤ n - i - 1 → c ≤ m - j - 1 → c ≤ most - k → Running a n b m most (length out) out i j k f p q c
   running-from {out} {i} {j} {k} v h s t z l r f =
       record { on = subst (λ (x : ℕ). Uniting a n b m most (length out) out i j k x) h (uniting-from v); one = s; two = t; left = omega arith; right = omega arith; free = omega arith }
 

@@ -483,7 +483,7 @@ fn first(p: u32, q: u32, s: u32, t: u32) -> u32
     if q < p { t } else { s }
 }
 
-// The same of indexes.
+// The same for an index.
 fn index(p: u32, q: u32, i: usize, j: usize) -> usize
     ensures { λ r. ⌜ Picked p q i j r ⌝ }
 {
@@ -668,7 +668,7 @@ fn run(a: &[u32], n: usize, b: &[u32], m: usize, out: &mut [u32], most: usize, w
     }
 }
 
-// The rows of the union, as many as there is room for, and how many there are. Each run leaves about half of the turns; the last few go one by one.
+// The rows of the union, as many as there is room for, and how many there are. A run takes about half of the rows that are left; one of less than five turns costs more than it saves, so the last rows are taken one by one.
 fn unite(a: &[u32], n: usize, b: &[u32], m: usize, out: &mut [u32], most: usize) -> usize
     requires { ⌜ Ruled (now a) n ⌝ }
     requires { ⌜ Ruled (now b) m ⌝ }

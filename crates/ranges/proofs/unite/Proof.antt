@@ -6,7 +6,7 @@ use lib.ListN.{length}
 use borrow.Author.Needs.{needs}
 use Rattle.tables.proofs.Uniting.{holds-other}
 use Rattle.tables.proofs.Meaning.{union-comm}
-use Rattle.ranges.proofs.Uniting.{Uniting, uniting-none, uniting-asked, uniting-left, uniting-right, uniting-anew, uniting-on}
+use Rattle.ranges.proofs.Uniting.{Uniting, uniting-none, uniting-given, uniting-left, uniting-right, uniting-anew, uniting-on}
 use Rattle.ranges.proofs.unite.Statement.{statement}
 use Rattle.ranges.proofs.unite.Tie as tie
 
@@ -29,13 +29,13 @@ turn-requires : tie.Need-turn-requires Inv-loop μ-loop Inv-loop2 μ-loop2
 turn-requires c κs =
     let t : tie.Then1 Inv-loop μ-loop Inv-loop2 μ-loop2 = search in
     let f = t .before .fitting .ensures in
-    (omega (arith, f .0, t .if1 .taken), (omega (arith, f .1 .0, t .if1 .taken), uniting-asked (t .before .before .loop .inv)))
+    (omega (arith, f .0, t .if1 .taken), (omega (arith, f .1 .0, t .if1 .taken), uniting-given (t .before .before .loop .inv)))
 
 run-requires : tie.Need-run-requires Inv-loop μ-loop Inv-loop2 μ-loop2
 run-requires c κs =
     let t : tie.After-turn Inv-loop μ-loop Inv-loop2 μ-loop2 = search in
     let l : tie.At-loop Inv-loop μ-loop Inv-loop2 μ-loop2 = search in
-    (t .turn .ensures .1 .1, uniting-asked (uniting-on (l .loop .inv) {out′ = t .turn .last .1 .1 .1 .1 .0} (t .turn .kept .1 .1 .1 .1 .0) (t .turn .ensures .0)))
+    (t .turn .ensures .1 .1, uniting-given (uniting-on (l .loop .inv) {out′ = t .turn .last .1 .1 .1 .1 .0} (t .turn .kept .1 .1 .1 .1 .0) (t .turn .ensures .0)))
 
 loop-less : tie.Need-loop-less Inv-loop μ-loop Inv-loop2 μ-loop2
 loop-less c =
@@ -72,7 +72,7 @@ turn-requires-2 c κs =
     let t : tie.Else3 Inv-loop μ-loop Inv-loop2 μ-loop2 = search in
     let l : tie.At-loop2 Inv-loop μ-loop Inv-loop2 μ-loop2 = search in
     let i : tie.Then2 Inv-loop μ-loop Inv-loop2 μ-loop2 = search in
-    (i .if2 .taken, (t .if3 .left, uniting-asked (l .loop2 .inv)))
+    (i .if2 .taken, (t .if3 .left, uniting-given (l .loop2 .inv)))
 
 loop2-less : tie.Need-loop2-less Inv-loop μ-loop Inv-loop2 μ-loop2
 loop2-less c =
