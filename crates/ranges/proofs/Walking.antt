@@ -13,10 +13,10 @@ use Rattle.tables.specs.Inner.Rows as inner
 use Rattle.tables.specs.Inner.Rows.{combined, difference, intersection, span}
 use Rattle.tables.specs.Inner.Sweep.{Holds}
 use Rattle.tables.specs.Inner.Edit.{Plain}
-use Rattle.tables.specs.Inner.Ends.{Turns, Below, Above, Halves, GapsFrom, GapsTo}
+use Rattle.tables.specs.Inner.Ends.{Turns, Inside, Below, Above, Halves, GapsFrom, GapsTo}
 use Rattle.tables.proofs.Uniting.{holds-other}
 use Rattle.tables.proofs.Gaps.{gaps, gaps-plain, gaps-combined}
-use Rattle.tables.proofs.Meeting.{Meeting, meeting-none, meeting-turn, meeting-rest, meeting-halves, meeting-less, below-less, turns-less}
+use Rattle.tables.proofs.Meeting.{Meeting, meeting-none, meeting-turn, meeting-top, meeting-rest, meeting-halves, meeting-less, below-within, below-less, turns-less}
 use Rattle.ranges.specs.Inner.{rowAt, rowsOf, Ruled}
 use Rattle.ranges.proofs.Editing.{ruled-plain}
 
@@ -55,12 +55,15 @@ module _ {a : List ℕ} {n : ℕ} {rb : ℕ → inner.Row} {m : ℕ} {Asks : ℕ
   walk-none p q f g r = record { one = p; two = q; few = f; asks = g; room = r; same = refl; met = meeting-none _ _ _ _ _ (ruled-plain p) q _ }
 
   module _ {len : ℕ} {out : List ℕ} {i j k u v t : ℕ} (w : Walk a n rb m Asks most len out i j k u v t) where
-    walk-to : {out′ : List ℕ} {i′ j′ k′ u′ v′ t′ : ℕ} → length out′ ≡ length out → Meeting (rowAt a) n i′ u′ rb m j′ v′ most (rowAt out′) k′ t′ → Walk a n rb m Asks most len out′ i′ j′ k′ u′ v′ t′
+    pub walk-to : {out′ : List ℕ} {i′ j′ k′ u′ v′ t′ : ℕ} → length out′ ≡ length out → Meeting (rowAt a) n i′ u′ rb m j′ v′ most (rowAt out′) k′ t′ → Walk a n rb m Asks most len out′ i′ j′ k′ u′ v′ t′
     walk-to l d = record { one = w .one; two = w .two; few = w .few; asks = w .asks; room = w .room; same = l ∙ w .same; met = d }
 
     -- for a second loop
     pub walk-on : Walk a n rb m Asks most (length out) out i j k u v t
     walk-on = record { one = w .one; two = w .two; few = w .few; asks = w .asks; room = omega (arith, w .room, w .same); same = refl; met = w .met }
+
+    pub walk-last : v ≤ rowLimit + 1
+    walk-last = omega (arith, w .few, w .met .two .within)
 
     pub walk-settle : (2 * most ≤ length out) × ((t ≤ most) × (k ≤ 2 * rowLimit + 1))
     walk-settle = (
@@ -85,6 +88,28 @@ module _ {a : List ℕ} {n : ℕ} {rb : ℕ → inner.Row} {m : ℕ} {Asks : ℕ
           );
         }
 
+    above : (i < u) × (j < v) → StepAbove a Asks u v
+    above h =
+        record {
+          left = omega (arith, h .0);
+          right = omega (arith, h .1);
+          row = omega (arith, w .one .fits, w .met .one .within, h .0);
+          asks = w .asks (v - 1) (omega (arith, w .met .two .within, h .1));
+        }
+
+    -- ## A step of the walk from above alone
+
+    module _ {last : Type 0} {on : Bool} (s : Says ((i < u) × (j < v) × (k < t) × last) on) (g : on ≡ true) where
+      pub top-above : StepAbove a Asks u v
+      top-above = above (s .right g .0, s .right g .1)
+
+      pub top-down : (2 * t ≤ length out) × ((0 < u) × ((0 < v) × (0 < t)))
+      top-down = (omega (arith, w .room, w .same, w .met .within), (omega (arith, s .right g .0), (omega (arith, s .right g .1), omega (arith, s .right g .2))))
+
+      pub top-more : {out′ : List ℕ} {u′ v′ t′ p e q f : ℕ} → Read (rowAt a) (u - 1) p e → Read rb (v - 1) q f → Above (rowAt out) u v t p e q f (rowAt out′) u′ v′ t′ → length out′ ≡ length out
+          → Walk a n rb m Asks most len out′ i j k u′ v′ t′
+      top-more x y b l = let h = s .right g in walk-to l (meeting-top _ _ _ _ _ (ruled-plain (w .one)) (w .two) (h .0, h .1, h .2) x y b (w .met))
+
     -- ## A turn of both walks
 
     module _ {c : ℕ} (s : Turns c i j k u v t) (g : 0 < c) where
@@ -92,13 +117,7 @@ module _ {a : List ℕ} {n : ℕ} {rb : ℕ → inner.Row} {m : ℕ} {Asks : ℕ
       turn-step = step (omega (arith, s .left), omega (arith, s .right))
 
       pub turn-above : StepAbove a Asks u v
-      turn-above =
-          record {
-            left = omega (arith, s .left);
-            right = omega (arith, s .right);
-            row = omega (arith, w .one .fits, w .met .one .within, s .left);
-            asks = w .asks (v - 1) (omega (arith, w .met .two .within, s .right));
-          }
+      turn-above = above (omega (arith, s .left), omega (arith, s .right))
 
       pub turn-down : {l : ℕ} → l ≡ length out → (2 * t ≤ l) × ((0 < u) × ((0 < v) × (0 < t)))
       turn-down e = (omega (arith, w .room, w .same, w .met .within), (omega (arith, s .left), (omega (arith, s .right), omega (arith, s .room))))
@@ -127,11 +146,22 @@ module _ {c i j k u v t p e q f i′ j′ k′ p₂ e₂ q₂ f₂ u′ v′ t�
   pub turn-less : (u′ + v′) - (i′ + j′) < (u + v) - (i + j)
   turn-less = meeting-less s g b d
 
-pub rest-less : {i j k u v room p e q f i′ j′ k′ : ℕ} {on : Bool} {row row′ : ℕ → inner.Row} → Says ((i < u) × (j < v)) on → on ≡ true
-    → Below room row i j k p e q f row′ i′ j′ k′ → (u + v) - (i′ + j′) < (u + v) - (i + j)
-rest-less s g b = below-less (s .right g) b
+module _ {i j k u v room p e q f i′ j′ k′ : ℕ} {on : Bool} {row row′ : ℕ → inner.Row} (s : Says ((i < u) × (j < v)) on) (g : on ≡ true) (b : Below room row i j k p e q f row′ i′ j′ k′) where
+  pub rest-within : (i′ ≤ u) × (j′ ≤ v)
+  rest-within = below-within (s .right g) b
+
+  pub rest-less : (u + v) - (i′ + j′) < (u + v) - (i + j)
+  rest-less = below-less (s .right g) b
 
 -- ## The gaps of a table
+
+-- what a look at a gap between two rows asks, from below and from above
+module _ {m lo c i j k u v t len : ℕ} (s : Inside m lo c i j k u v t) (g : 0 < c) where
+  pub inside-asks : (2 * m ≤ len) × (lo + j ≤ m) → (2 * m ≤ len) × ((0 < lo + j) × (lo + j < m))
+  inside-asks h = (h .0, (s .behind, omega (arith, s .before, s .turns .right)))
+
+  pub inside-asks-above : (2 * m ≤ len) × (lo + (v - 1) ≤ m) → (2 * m ≤ len) × ((0 < lo + (v - 1)) × (lo + (v - 1) < m))
+  inside-asks-above h = (h .0, (omega (arith, s .turns .right), omega (arith, s .before, s .turns .right)))
 
 module _ {a : List ℕ} {n : ℕ} {b : List ℕ} {m lo hi : ℕ} (p : Ruled a n) (q : Ruled b m) (f : GapsFrom (rowAt b) m lo) (g : GapsTo 4294967295 (rowAt b) m hi) where
   pub walk-gaps : {most : ℕ} {out : List ℕ} → 2 * most ≤ length out → Walk a n (gaps 4294967295 (rowAt b) m lo) (hi - lo) (Gap b m lo) most (length out) out 0 0 0 n (hi - lo) most

@@ -10,7 +10,7 @@ ghost use Rattle.tables.specs.Inner.Sweep.{Holds};
 ghost use Rattle.tables.specs.Inner.Unite.{Passed, Counted, Starts, Ends, Last, Adds, United};
 ghost use Rattle.tables.specs.Inner.Cross.{Keeps};
 ghost use Rattle.tables.specs.Inner.Differ.{GapStart, GapEnd};
-ghost use Rattle.tables.specs.Inner.Ends.{Stores, Dropped, Raised, Turns, Below, Above, Halves, GapsFrom, GapsTo};
+ghost use Rattle.tables.specs.Inner.Ends.{Stores, Dropped, Raised, Turns, Inside, Below, Above, Halves, GapsFrom, GapsTo};
 ghost use Rattle.tables.specs.Inner.Edit.{range, Advanced, Parted, starts, ends, Starting, Ending, Moved, Stands};
 ghost use Rattle.ranges.specs.Tables.{most, Merged, Excluded, Intersected, Inserted, Removed, FromRanges, ContainsClock, FindStart, ClockStart, ClockEnd, Len, IsEmpty, Get};
 ghost use Rattle.ranges.specs.Inner.{rowAt, rowsOf, Ruled, Wrote, Picked};
@@ -901,6 +901,58 @@ fn gap_at(b: &[u32], m: usize, j: usize) -> Piece
     }
 }
 
+// The gap before row `j`, where a row stands before it and one behind it.
+fn gap_inside(b: &[u32], m: usize, j: usize) -> Piece
+    requires { ⌜ 2 * m ≤ length (now b) ⌝ }
+    requires { ⌜ 0 < j ⌝ }
+    requires { ⌜ j < m ⌝ }
+    ensures { λ r. ⌜ GapStart (rowAt (now (b .entry))) j (r .start) ⌝ }
+    ensures { λ r. ⌜ GapEnd 4294967295 (rowAt (now (b .entry))) m j (r .end) ⌝ }
+{
+    Piece {
+        start: b[2 * j - 1],
+        end: b[2 * j],
+    }
+}
+
+// Whether the walk from above stands at the gap behind the last row, and can go on.
+fn behind(m: usize, lo: usize, w: Low, z: High) -> bool
+    requires { ⌜ lo ≤ 1 ⌝ }
+    requires { ⌜ z .v ≤ rowLimit + 1 ⌝ }
+    ensures { λ r. ⌜ Says ((w .i < z .u) × (w .j < z .v) × (w .k < z .t) × (m < lo + z .v)) r ⌝ }
+{
+    if z.u <= w.i {
+        return false;
+    }
+    if z.v <= w.j {
+        return false;
+    }
+    if z.t <= w.k {
+        return false;
+    }
+    m < lo + z.v
+}
+
+// How many turns of both walks surely fit, where all gaps between them lie between two rows.
+fn turns_inside(m: usize, lo: usize, w: Low, z: High) -> usize
+    requires { ⌜ lo ≤ 1 ⌝ }
+    requires { ⌜ w .i ≤ z .u ⌝ }
+    requires { ⌜ w .j ≤ z .v ⌝ }
+    requires { ⌜ z .v ≤ rowLimit + 1 ⌝ }
+    ensures { λ r. ⌜ (0 < r → Inside m lo r (w .i) (w .j) (w .k) (z .u) (z .v) (z .t)) ⌝ }
+{
+    if z.t < w.k {
+        return 0;
+    }
+    if lo + w.j == 0 {
+        return 0;
+    }
+    if m < lo + z.v {
+        return 0;
+    }
+    turns(w, z)
+}
+
 // The first gap that is not empty: a row that starts at 0 has none before it.
 fn gaps_from(b: &[u32], m: usize) -> usize
     requires { ⌜ 2 * m ≤ length (now b) ⌝ }
@@ -930,7 +982,7 @@ fn gaps_to(b: &[u32], m: usize) -> usize
     m
 }
 
-// The rows of the difference: those of the intersection of `a` with the gaps of `b`.
+// The rows of the difference: those of the intersection of `a` with the gaps of `b`. The gaps at either end go step by step, those inside in turns of both walks.
 fn differ(a: &[u32], n: usize, b: &[u32], m: usize, out: &mut [u32], most: usize) -> usize
     requires { ⌜ Ruled (now a) n ⌝ }
     requires { ⌜ Ruled (now b) m ⌝ }
@@ -945,14 +997,17 @@ fn differ(a: &[u32], n: usize, b: &[u32], m: usize, out: &mut [u32], most: usize
         v: hi - lo,
         t: most,
     };
-    let mut c = turns(w, z);
-    while 0 < c {
-        w = up(out, z.t, w, row_at(a, w.i), gap_at(b, m, lo + w.j));
+    while behind(m, lo, w, z) {
         z = down(out, z, row_at(a, z.u - 1), gap_at(b, m, lo + (z.v - 1)));
-        c = turns_left(c, w, z);
     }
     while between(w, z) {
         w = up(out, z.t, w, row_at(a, w.i), gap_at(b, m, lo + w.j));
+        let mut c = turns_inside(m, lo, w, z);
+        while 0 < c {
+            w = up(out, z.t, w, row_at(a, w.i), gap_inside(b, m, lo + w.j));
+            z = down(out, z, row_at(a, z.u - 1), gap_inside(b, m, lo + (z.v - 1)));
+            c -= 1;
+        }
     }
     settle(out, most, w.k, z.t)
 }

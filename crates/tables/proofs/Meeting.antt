@@ -10,7 +10,7 @@ use Rattle.tables.specs.Inner.Sweep.{Holds}
 use Rattle.tables.specs.Inner.Edit.{Plain, Moved}
 use Rattle.tables.specs.Inner.Unite.{Passed}
 use Rattle.tables.specs.Inner.Cross.{Keeps}
-use Rattle.tables.specs.Inner.Ends.{Stores, Dropped, Raised, Turns, Below, Above, Halves}
+use Rattle.tables.specs.Inner.Ends.{Stores, Dropped, Raised, Turns, Inside, Below, Above, Halves}
 use Rattle.varint.proofs.Cases.{split}
 use Rattle.tables.proofs.Joining.{at-here, at-past, at-below, at-top, Built, combination, piece}
 use Rattle.tables.proofs.Spanning.{spanned, length-span, span-cons, span-none, span-same, push-adds}
@@ -71,32 +71,47 @@ below-few {p = p} {e = e} {q = q} {f = f} s = (
 below-on : {room i j k p e q f i′ j′ k′ : ℕ} {row row′ : ℕ → Row} → Below room row i j k p e q f row′ i′ j′ k′ → i + j < i′ + j′
 below-on s = moves _ _ _ _ _ _ _ refl (s .one) (s .two)
 
+pub below-within : {room i j k p e q f i′ j′ k′ u v : ℕ} {row row′ : ℕ → Row} → (i < u) × (j < v) → Below room row i j k p e q f row′ i′ j′ k′ → (i′ ≤ u) × (j′ ≤ v)
+below-within h s = (omega (arith, h .0, below-few s .0), omega (arith, h .1, below-few s .1))
+
 pub below-less : {room i j k p e q f i′ j′ k′ u v : ℕ} {row row′ : ℕ → Row} → (i < u) × (j < v) → Below room row i j k p e q f row′ i′ j′ k′ → (u + v) - (i′ + j′) < (u + v) - (i + j)
 below-less h s = omega (arith, h .0, h .1, below-on s)
 
+-- and one from above too
+above-few : {u v t p e q f u′ v′ t′ : ℕ} {row row′ : ℕ → Row} → Above row u v t p e q f row′ u′ v′ t′ → (u′ ≤ u) × (u ≤ u′ + 1) × (v′ ≤ v) × (v ≤ v′ + 1) × (t ≤ t′ + 1)
+above-few {p = p} {e = e} {q = q} {f = f} s = (
+  ⊎-elim (λ l. omega (arith, s .one .off l)) (λ l. omega (arith, s .one .on l)) (split p (max p q)),
+  ⊎-elim (λ l. omega (arith, s .one .off l)) (λ l. omega (arith, s .one .on l)) (split p (max p q)),
+  ⊎-elim (λ l. omega (arith, s .two .off l)) (λ l. omega (arith, s .two .on l)) (split q (max p q)),
+  ⊎-elim (λ l. omega (arith, s .two .off l)) (λ l. omega (arith, s .two .on l)) (split q (max p q)),
+  ⊎-elim (λ l. omega (arith, s .raised .new l)) (λ l. omega (arith, s .raised .old l)) (split (max p q) (min e f)),
+)
+
+pub above-less : {u v t p e q f u′ v′ t′ : ℕ} {row row′ : ℕ → Row} → 0 < u → 0 < v → Above row u v t p e q f row′ u′ v′ t′ → u′ + v′ < u + v
+above-less {p = p} {q = q} h g s = ⊎-elim (λ l. omega (arith, s .two .on (omega arith), above-few s .0)) (λ l. omega (arith, s .one .on (omega arith), above-few s .2)) (split p q)
+
 pub meeting-less : {c i j k p e q f i′ j′ k′ u v t p₂ e₂ q₂ f₂ u′ v′ t′ : ℕ} {row row′ row₂ : ℕ → Row} → Turns c i j k u v t → 0 < c
     → Below t row i j k p e q f row′ i′ j′ k′ → Above row′ u v t p₂ e₂ q₂ f₂ row₂ u′ v′ t′ → (u′ + v′) - (i′ + j′) < (u + v) - (i + j)
-meeting-less {u = u} {v = v} {p₂ = p₂} {q₂ = q₂} {u′ = u′} {v′ = v′} h g s r = omega (arith, h .left, h .right, below-on s, one, two)
-  where
-    one : u′ ≤ u
-    one = ⊎-elim (λ l. omega (arith, r .one .off l)) (λ l. omega (arith, r .one .on l)) (split p₂ (max p₂ q₂))
-
-    two : v′ ≤ v
-    two = ⊎-elim (λ l. omega (arith, r .two .off l)) (λ l. omega (arith, r .two .on l)) (split q₂ (max p₂ q₂))
+meeting-less h g s r = omega (arith, h .left, h .right, below-on s, above-few r .0, above-few r .2)
 
 -- a turn leaves room for one less
 pub turns-less : {c i j k p e q f i′ j′ k′ u v t p₂ e₂ q₂ f₂ u′ v′ t′ : ℕ} {row row′ row₂ : ℕ → Row} → Turns c i j k u v t → 0 < c
     → Below t row i j k p e q f row′ i′ j′ k′ → Above row′ u v t p₂ e₂ q₂ f₂ row₂ u′ v′ t′ → Turns (c - 1) i′ j′ k′ u′ v′ t′
-turns-less {u = u} {v = v} {t = t} {p₂ = p₂} {e₂ = e₂} {q₂ = q₂} {f₂ = f₂} {u′ = u′} {v′ = v′} {t′ = t′} g h s r = record { left = omega (arith, g .left, below-few s .0, one); right = omega (arith, g .right, below-few s .1, two); room = omega (arith, g .room, below-few s .2, three) }
-  where
-    one : u ≤ u′ + 1
-    one = ⊎-elim (λ l. omega (arith, r .one .off l)) (λ l. omega (arith, r .one .on l)) (split p₂ (max p₂ q₂))
+turns-less g h s r =
+    let a = below-few s in
+    let b = above-few r in
+    record { left = omega (arith, g .left, a .0, b .1); right = omega (arith, g .right, a .1, b .3); room = omega (arith, g .room, a .2, b .4) }
 
-    two : v ≤ v′ + 1
-    two = ⊎-elim (λ l. omega (arith, r .two .off l)) (λ l. omega (arith, r .two .on l)) (split q₂ (max p₂ q₂))
-
-    three : t ≤ t′ + 1
-    three = ⊎-elim (λ l. omega (arith, r .raised .new l)) (λ l. omega (arith, r .raised .old l)) (split (max p₂ q₂) (min e₂ f₂))
+-- and stays between the rows
+pub inside-less : {m lo c i j k p e q f i′ j′ k′ u v t p₂ e₂ q₂ f₂ u′ v′ t′ : ℕ} {row row′ row₂ : ℕ → Row} → Inside m lo c i j k u v t → 0 < c
+    → Below t row i j k p e q f row′ i′ j′ k′ → Above row′ u v t p₂ e₂ q₂ f₂ row₂ u′ v′ t′ → Inside m lo (c - 1) i′ j′ k′ u′ v′ t′
+inside-less {e = e} {f = f} g h s r =
+    record {
+      turns = turns-less (g .turns) h s r;
+      from = g .from;
+      behind = ⊎-elim (λ l. omega (arith, g .behind, s .two .off l)) (λ l. omega (arith, g .behind, s .two .on l)) (split (min e f) f);
+      before = omega (arith, g .before, above-few r .2);
+    }
 
 -- a piece behind a gap is a row of its own
 push-apart : (lo w : ℕ) (rs : Rows) (s e : ℕ) → JoinedFrom lo w rs → top rs ≤ s → ((z : ℕ) → suc z ≡ s → at rs z ≡ 0) → push rs s e 1 ≡ rs ++ (piece s e 1 ∷ [])
@@ -331,6 +346,12 @@ module _ (ra : ℕ → Row) (n : ℕ) (rb : ℕ → Row) (m most : ℕ) (ta : Pl
           whole = ⊎-elim whole-new whole-old (split x y);
         }
 
+  -- a step from above alone, with rows as they were read
+  pub meeting-top : {i u u′ j v v′ k t t′ p e q f : ℕ} {row row′ : ℕ → Row} → (i < u) × (j < v) × (k < t)
+      → (p ≡ ra (u - 1) .start) × (e ≡ ra (u - 1) .end) → (q ≡ rb (v - 1) .start) × (f ≡ rb (v - 1) .end) → Above row u v t p e q f row′ u′ v′ t′
+      → Meeting ra n i u rb m j v most row k t → Meeting ra n i u′ rb m j v′ most row′ k t′
+  meeting-top {u = u} {v = v} h c d r z = meeting-above _ _ _ _ _ _ _ _ _ (u - 1) (v - 1) _ _ (omega (arith, h .0)) (omega (arith, h .1)) (h .0) (h .1) (h .2) (above-read c d r) z
+
   -- a turn: both steps, with rows as they were read
   pub meeting-turn : {c₀ i i′ u u′ j j′ v v′ k k′ t t′ p e q f p₂ e₂ q₂ f₂ : ℕ} {row row′ row₂ : ℕ → Row} → Turns c₀ i j k u v t → 0 < c₀
       → (p ≡ ra i .start) × (e ≡ ra i .end) → (q ≡ rb j .start) × (f ≡ rb j .end) → Below t row i j k p e q f row′ i′ j′ k′
@@ -338,8 +359,8 @@ module _ (ra : ℕ → Row) (n : ℕ) (rb : ℕ → Row) (m most : ℕ) (ta : Pl
       → Meeting ra n i u rb m j v most row k t → Meeting ra n i′ u′ rb m j′ v′ most row₂ k′ t′
   meeting-turn {c₀} {i} {i′} {u} {u′} {j} {j′} {v} {v′} {k} {k′} {t} {t′} {row = row} {row′ = row′} {row₂ = row₂} h g a b s c d r z =
       let w = below-few s in
-      meeting-above i′ u u′ j′ v v′ k′ t t′ (u - 1) (v - 1) row′ row₂ (omega (arith, h .left)) (omega (arith, h .right)) (omega (arith, h .left, w .0)) (omega (arith, h .right, w .1)) (omega (arith, h .room, w .2))
-      (above-read c d r) (meeting-below i i′ u j j′ v k k′ t row row′ (omega (arith, h .left)) (omega (arith, h .right)) (below-read a b s) z)
+      meeting-top (omega (arith, h .left, w .0), omega (arith, h .right, w .1), omega (arith, h .room, w .2)) c d r
+      (meeting-below i i′ u j j′ v k k′ t row row′ (omega (arith, h .left)) (omega (arith, h .right)) (below-read a b s) z)
 
   -- a step from below alone
   pub meeting-rest : {i i′ u j j′ v k k′ t p e q f : ℕ} {row row′ : ℕ → Row} → (i < u) × (j < v) → (p ≡ ra i .start) × (e ≡ ra i .end) → (q ≡ rb j .start) × (f ≡ rb j .end)

@@ -1,0 +1,24 @@
+-- Each test that is taken refutes its part; the last is the answer. Assumes nothing.
+use native.Mathlib.Omega.{arith}
+use Rattle.tables.proofs.Saying.{says-no}
+use Rattle.tables.proofs.Testing.{less-says}
+use borrow.Author.Needs.{needs}
+use Rattle.ranges.proofs.behind.Statement.{statement}
+use Rattle.ranges.proofs.behind.Tie as tie
+
+returns : tie.Need-returns
+returns c = says-no (λ h. omega (arith, h .0))
+
+returns-2 : tie.Need-returns-2
+returns-2 c = says-no (λ h. omega (arith, h .1))
+
+returns-3 : tie.Need-returns-3
+returns-3 c = says-no (λ h. omega (arith, h .2))
+
+returns-4 : tie.Need-returns-4
+returns-4 c =
+    let s = less-says _ _ in
+    record { right = λ e. (omega arith, omega arith, omega arith, s .right e); wrong = λ e h. s .wrong e (h .3) }
+
+pub behind-spec : {M : Type 1} → statement M
+behind-spec = tie.close (tie.spec returns returns-2 returns-3 (λ c. search needs) returns-4)
