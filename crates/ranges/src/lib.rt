@@ -156,12 +156,6 @@ fn higher(x: u32, y: u32) -> u32
     if x < y { y } else { x }
 }
 
-fn fewer(x: usize, y: usize) -> usize
-    ensures { λ r. ⌜ r ≡ min x y ⌝ }
-{
-    if x < y { x } else { y }
-}
-
 // ## Questions
 
 // How many rows the table has.
@@ -606,7 +600,7 @@ fn fitting(n: usize, m: usize, most: usize, w: Taken) -> usize
     if most <= w.k {
         return 0;
     }
-    fewer(fewer(n - w.i - 1, m - w.j - 1), most - w.k)
+    tables::lesser(tables::lesser(n - w.i - 1, m - w.j - 1), most - w.k)
 }
 
 // `join` where there is a last row, which ends at `e`, and room.

@@ -10,7 +10,7 @@ least : {x y z u r : ℕ} → u ≡ min x y → r ≡ min u z → (r ≤ x) × (
 least h g = (omega arith, (omega arith, omega arith))
 
 returns-4 : tie.Need-returns-4
-returns-4 c = let f : tie.After-fewer = search in let g : tie.After-fewer2 = search in least (f .fewer .ensures) (g .fewer2 .ensures)
+returns-4 c = let f : tie.After-lesser = search in let g : tie.After-lesser2 = search in least (f .lesser .ensures) (g .lesser2 .ensures)
 
 pub fitting-spec : {M : Type 1} → statement M
 fitting-spec =
