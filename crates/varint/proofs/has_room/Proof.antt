@@ -9,8 +9,5 @@ has-room-spec =
     (tie.spec
     (λ c. search room)
     (λ c. search room)
-    (λ c. search room)
-    (λ c. search room)
     (λ c κs. search room)
-    (λ c. search room)
     (λ c. search room))
