@@ -16,7 +16,7 @@ use Rattle.tables.specs.Inner.Edit.{Plain}
 use Rattle.tables.specs.Inner.Ends.{Turns, Inside, Below, Above, Halves, GapsFrom, GapsTo}
 use Rattle.tables.proofs.Uniting.{holds-other}
 use Rattle.tables.proofs.Gaps.{gaps, gaps-plain, gaps-combined}
-use Rattle.tables.proofs.Meeting.{Meeting, meeting-none, meeting-turn, meeting-top, meeting-rest, meeting-halves, meeting-less, below-within, below-less, turns-less}
+use Rattle.tables.proofs.Meeting.{Meeting, meeting-none, meeting-turn, meeting-top, meeting-rest, meeting-halves, meeting-less, below-room, below-within, below-less, turns-less}
 use Rattle.ranges.specs.Inner.{rowAt, rowsOf, Ruled}
 use Rattle.ranges.proofs.Editing.{ruled-plain}
 
@@ -116,6 +116,10 @@ module _ {a : List ℕ} {n : ℕ} {rb : ℕ → inner.Row} {m : ℕ} {Asks : ℕ
       pub turn-step : Step a Asks out i j k t
       turn-step = step (omega (arith, s .left), omega (arith, s .right))
 
+      -- a step from below is told of room for one row
+      pub turn-up : (2 * (k + 1) ≤ length out) × ((i ≤ rowLimit) × ((j ≤ rowLimit) × (k ≤ 2 * rowLimit)))
+      turn-up = (omega (arith, w .room, w .same, w .met .within, s .room), turn-step .up .1)
+
       pub turn-above : StepAbove a Asks u v
       turn-above = above (omega (arith, s .left), omega (arith, s .right))
 
@@ -123,9 +127,9 @@ module _ {a : List ℕ} {n : ℕ} {rb : ℕ → inner.Row} {m : ℕ} {Asks : ℕ
       turn-down e = (omega (arith, w .room, w .same, w .met .within), (omega (arith, s .left), (omega (arith, s .right), omega (arith, s .room))))
 
       pub turn-more : {out₂ : List ℕ} {row′ : ℕ → inner.Row} {l i′ j′ k′ u′ v′ t′ p e q f p₂ e₂ q₂ f₂ : ℕ} → Read (rowAt a) i p e → Read rb j q f
-          → Below t (rowAt out) i j k p e q f row′ i′ j′ k′ → l ≡ length out → Read (rowAt a) (u - 1) p₂ e₂ → Read rb (v - 1) q₂ f₂
+          → Below (k + 1) (rowAt out) i j k p e q f row′ i′ j′ k′ → l ≡ length out → Read (rowAt a) (u - 1) p₂ e₂ → Read rb (v - 1) q₂ f₂
           → Above row′ u v t p₂ e₂ q₂ f₂ (rowAt out₂) u′ v′ t′ → length out₂ ≡ l → Walk a n rb m Asks most len out₂ i′ j′ k′ u′ v′ t′
-      turn-more x y b l x₂ y₂ d l₂ = walk-to (l₂ ∙ l) (meeting-turn _ _ _ _ _ (ruled-plain (w .one)) (w .two) s g x y b x₂ y₂ d (w .met))
+      turn-more x y b l x₂ y₂ d l₂ = walk-to (l₂ ∙ l) (meeting-turn _ _ _ _ _ (ruled-plain (w .one)) (w .two) s g x y (below-room (omega (arith, s .room)) b) x₂ y₂ d (w .met))
 
     -- ## And of the one from below alone
 
@@ -138,7 +142,7 @@ module _ {a : List ℕ} {n : ℕ} {rb : ℕ → inner.Row} {m : ℕ} {Asks : ℕ
       rest-more x y b l = walk-to l (meeting-rest _ _ _ _ _ (ruled-plain (w .one)) (w .two) (s .right g) x y b (w .met))
 
 module _ {c i j k u v t p e q f i′ j′ k′ p₂ e₂ q₂ f₂ u′ v′ t′ : ℕ} {row row′ row₂ : ℕ → inner.Row} (s : Turns c i j k u v t) (g : 0 < c)
-    (b : Below t row i j k p e q f row′ i′ j′ k′) (d : Above row′ u v t p₂ e₂ q₂ f₂ row₂ u′ v′ t′) where
+    (b : Below (k + 1) row i j k p e q f row′ i′ j′ k′) (d : Above row′ u v t p₂ e₂ q₂ f₂ row₂ u′ v′ t′) where
   -- what `turns_left` asks
   pub turn-left : (0 < c) × Turns (c - 1) i′ j′ k′ u′ v′ t′
   turn-left = (g, turns-less s g b d)

@@ -758,7 +758,7 @@ fn row_at(t: &[u32], i: usize) -> Piece
     }
 }
 
-// A step from below: what the rows `p` and `q` share, and past the one that ends first.
+// A step from below: what the rows `p` and `q` share, and past the one that ends first. Where there surely is room, `most` is one more than `k`: then nothing is tested.
 fn up(out: &mut [u32], most: usize, w: Low, p: Piece, q: Piece) -> Low
     requires { ⌜ 2 * most ≤ length (now out) ⌝ }
     requires { ⌜ w .i ≤ rowLimit ⌝ }
@@ -998,7 +998,7 @@ fn differ(a: &[u32], n: usize, b: &[u32], m: usize, out: &mut [u32], most: usize
         w = up(out, z.t, w, row_at(a, w.i), gap_at(b, m, lo + w.j));
         let mut c = turns_inside(m, lo, w, z);
         while 0 < c {
-            w = up(out, z.t, w, row_at(a, w.i), gap_inside(b, m, lo + w.j));
+            w = up(out, w.k + 1, w, row_at(a, w.i), gap_inside(b, m, lo + w.j));
             z = down(out, z, row_at(a, z.u - 1), gap_inside(b, m, lo + (z.v - 1)));
             c -= 1;
         }
@@ -1034,7 +1034,7 @@ fn cross(a: &[u32], n: usize, b: &[u32], m: usize, out: &mut [u32], most: usize)
     };
     let mut c = turns(w, z);
     while 0 < c {
-        w = up(out, z.t, w, row_at(a, w.i), row_at(b, w.j));
+        w = up(out, w.k + 1, w, row_at(a, w.i), row_at(b, w.j));
         z = down(out, z, row_at(a, z.u - 1), row_at(b, z.v - 1));
         c = turns_left(c, w, z);
     }

@@ -68,6 +68,16 @@ below-few {p = p} {e = e} {q = q} {f = f} s = (
   ⊎-elim (λ l. omega (arith, s .keeps .new l)) (λ l. omega (arith, s .keeps .old l)) (split (max p q) (min e f)),
 )
 
+-- a step that is told of less room than there is
+pub below-room : {room i j k p e q f i′ j′ k′ : ℕ} {row row′ : ℕ → Row} → k < room → Below (k + 1) row i j k p e q f row′ i′ j′ k′ → Below room row i j k p e q f row′ i′ j′ k′
+below-room h s =
+    record {
+      one = s .one;
+      two = s .two;
+      keeps = record { below = s .keeps .below; here = λ _. s .keeps .here (omega arith); new = s .keeps .new; old = s .keeps .old };
+      above = λ z g. s .above z (omega arith);
+    }
+
 below-on : {room i j k p e q f i′ j′ k′ : ℕ} {row row′ : ℕ → Row} → Below room row i j k p e q f row′ i′ j′ k′ → i + j < i′ + j′
 below-on s = moves _ _ _ _ _ _ _ refl (s .one) (s .two)
 
@@ -90,21 +100,21 @@ above-few {p = p} {e = e} {q = q} {f = f} s = (
 pub above-less : {u v t p e q f u′ v′ t′ : ℕ} {row row′ : ℕ → Row} → 0 < u → 0 < v → Above row u v t p e q f row′ u′ v′ t′ → u′ + v′ < u + v
 above-less {p = p} {q = q} h g s = ⊎-elim (λ l. omega (arith, s .two .on (omega arith), above-few s .0)) (λ l. omega (arith, s .one .on (omega arith), above-few s .2)) (split p q)
 
-pub meeting-less : {c i j k p e q f i′ j′ k′ u v t p₂ e₂ q₂ f₂ u′ v′ t′ : ℕ} {row row′ row₂ : ℕ → Row} → Turns c i j k u v t → 0 < c
-    → Below t row i j k p e q f row′ i′ j′ k′ → Above row′ u v t p₂ e₂ q₂ f₂ row₂ u′ v′ t′ → (u′ + v′) - (i′ + j′) < (u + v) - (i + j)
+pub meeting-less : {c i j k p e q f i′ j′ k′ u v t p₂ e₂ q₂ f₂ u′ v′ t′ room : ℕ} {row row′ row₂ : ℕ → Row} → Turns c i j k u v t → 0 < c
+    → Below room row i j k p e q f row′ i′ j′ k′ → Above row′ u v t p₂ e₂ q₂ f₂ row₂ u′ v′ t′ → (u′ + v′) - (i′ + j′) < (u + v) - (i + j)
 meeting-less h g s r = omega (arith, h .left, h .right, below-on s, above-few r .0, above-few r .2)
 
 -- a turn leaves room for one less
-pub turns-less : {c i j k p e q f i′ j′ k′ u v t p₂ e₂ q₂ f₂ u′ v′ t′ : ℕ} {row row′ row₂ : ℕ → Row} → Turns c i j k u v t → 0 < c
-    → Below t row i j k p e q f row′ i′ j′ k′ → Above row′ u v t p₂ e₂ q₂ f₂ row₂ u′ v′ t′ → Turns (c - 1) i′ j′ k′ u′ v′ t′
+pub turns-less : {c i j k p e q f i′ j′ k′ u v t p₂ e₂ q₂ f₂ u′ v′ t′ room : ℕ} {row row′ row₂ : ℕ → Row} → Turns c i j k u v t → 0 < c
+    → Below room row i j k p e q f row′ i′ j′ k′ → Above row′ u v t p₂ e₂ q₂ f₂ row₂ u′ v′ t′ → Turns (c - 1) i′ j′ k′ u′ v′ t′
 turns-less g h s r =
     let a = below-few s in
     let b = above-few r in
     record { left = omega (arith, g .left, a .0, b .1); right = omega (arith, g .right, a .1, b .3); room = omega (arith, g .room, a .2, b .4) }
 
 -- and stays between the rows
-pub inside-less : {m lo c i j k p e q f i′ j′ k′ u v t p₂ e₂ q₂ f₂ u′ v′ t′ : ℕ} {row row′ row₂ : ℕ → Row} → Inside m lo c i j k u v t → 0 < c
-    → Below t row i j k p e q f row′ i′ j′ k′ → Above row′ u v t p₂ e₂ q₂ f₂ row₂ u′ v′ t′ → Inside m lo (c - 1) i′ j′ k′ u′ v′ t′
+pub inside-less : {m lo c i j k p e q f i′ j′ k′ u v t p₂ e₂ q₂ f₂ u′ v′ t′ room : ℕ} {row row′ row₂ : ℕ → Row} → Inside m lo c i j k u v t → 0 < c
+    → Below room row i j k p e q f row′ i′ j′ k′ → Above row′ u v t p₂ e₂ q₂ f₂ row₂ u′ v′ t′ → Inside m lo (c - 1) i′ j′ k′ u′ v′ t′
 inside-less {e = e} {f = f} g h s r =
     record {
       turns = turns-less (g .turns) h s r;

@@ -6,7 +6,7 @@ use lib.ListN.{length}
 use Rattle.tables.specs.Inner.Ends.{Turns}
 use Rattle.ranges.specs.Inner.{rowAt}
 use Rattle.ranges.proofs.Editing.{ruled-plain}
-use Rattle.ranges.proofs.Walking.{Walk, walk-none, walk-on, walk-settle, walk-halves, turn-step, turn-above, turn-down, turn-more, turn-left, turn-less, rest-step, rest-more, rest-less}
+use Rattle.ranges.proofs.Walking.{Walk, walk-none, walk-on, walk-settle, walk-halves, turn-step, turn-up, turn-above, turn-down, turn-more, turn-left, turn-less, rest-step, rest-more, rest-less}
 use borrow.Author.Needs.{needs}
 use Rattle.ranges.proofs.cross.Statement.{statement}
 use Rattle.ranges.proofs.cross.Tie as tie
@@ -35,6 +35,9 @@ loop-holds c =
     let s : tie.Start Inv-loop μ-loop Inv-loop2 μ-loop2 = search in
     (walk-none (s .pre .0) (ruled-plain (s .pre .1 .0)) (omega (arith, s .pre .1 .0 .few)) (λ j h. omega (arith, s .pre .1 .0 .fits)) (s .pre .1 .1), c .turns .ensures)
 
+add-up : tie.Need-add-up Inv-loop μ-loop Inv-loop2 μ-loop2
+add-up c = let t : Turn = search in omega (arith, turn-up (t .before .loop .inv .0) (t .before .loop .inv .1) (t .loop-test .taken))
+
 row-at-requires : tie.Need-row-at-requires Inv-loop μ-loop Inv-loop2 μ-loop2
 row-at-requires c κs = let t : Turn = search in turn-step (t .before .loop .inv .0) (t .before .loop .inv .1) (t .loop-test .taken) .row
 
@@ -42,7 +45,7 @@ row-at-requires-2 : tie.Need-row-at-requires-2 Inv-loop μ-loop Inv-loop2 μ-loo
 row-at-requires-2 c κs = let t : Turn = search in turn-step (t .before .loop .inv .0) (t .before .loop .inv .1) (t .loop-test .taken) .asks
 
 up-requires : tie.Need-up-requires Inv-loop μ-loop Inv-loop2 μ-loop2
-up-requires c κs = let t : Turn = search in turn-step (t .before .loop .inv .0) (t .before .loop .inv .1) (t .loop-test .taken) .up
+up-requires c κs = let t : Turn = search in turn-up (t .before .loop .inv .0) (t .before .loop .inv .1) (t .loop-test .taken)
 
 sub-row-at : tie.Need-sub-row-at Inv-loop μ-loop Inv-loop2 μ-loop2
 sub-row-at c = let t : Turn = search in turn-above (t .before .loop .inv .0) (t .before .loop .inv .1) (t .loop-test .taken) .left
@@ -136,6 +139,7 @@ cross-spec =
     μ-loop2
     (λ c κs. search needs)
     loop-holds
+    add-up
     row-at-requires
     row-at-requires-2
     up-requires

@@ -11,7 +11,7 @@ use Rattle.tables.proofs.Meeting.{above-less, meeting-less, inside-less}
 use Rattle.ranges.specs.declared.Low.{Low}
 use Rattle.ranges.specs.declared.High.{High}
 use Rattle.ranges.specs.Inner.{rowAt}
-use Rattle.ranges.proofs.Walking.{Walk, Gap, walk-gaps, gaps-differ, walk-on, walk-to, walk-last, walk-settle, walk-halves, top-above, top-down, top-more, turn-step, turn-above, turn-down, turn-more, rest-step, rest-more, rest-within, rest-less, inside-asks, inside-asks-above}
+use Rattle.ranges.proofs.Walking.{Walk, Gap, walk-gaps, gaps-differ, walk-on, walk-to, walk-last, walk-settle, walk-halves, top-above, top-down, top-more, turn-step, turn-up, turn-above, turn-down, turn-more, rest-step, rest-more, rest-within, rest-less, inside-asks, inside-asks-above}
 use borrow.Author.Needs.{needs}
 use Rattle.ranges.proofs.differ.Statement.{statement}
 use Rattle.ranges.proofs.differ.Tie as tie
@@ -144,6 +144,9 @@ loop3-holds c =
     let v = rest-more (r .before .before .loop2 .inv) (r .before .between .ensures) (r .if2 .taken) (u .before .before .before .row-at2 .ensures) (gap-read _ _ _ (u .before .gap-at2 .ensures)) (u .up .ensures) (u .up .kept .0) in
     (walk-on v, c .turns-inside .ensures, omega arith)
 
+add-up : tie.Need-add-up Inv-loop μ-loop Inv-loop3 μ-loop3 Inv-loop2 μ-loop2
+add-up c = let t : Turn = search in let v = t .before .loop3 .inv in let g = t .loop3-test .taken in omega (arith, turn-up (v .0) (v .1 g .turns) g)
+
 row-at-requires-3 : tie.Need-row-at-requires-3 Inv-loop μ-loop Inv-loop3 μ-loop3 Inv-loop2 μ-loop2
 row-at-requires-3 c κs = let t : Turn = search in let v = t .before .loop3 .inv in let g = t .loop3-test .taken in turn-step (v .0) (v .1 g .turns) g .row
 
@@ -154,7 +157,7 @@ gap-inside-requires : tie.Need-gap-inside-requires Inv-loop μ-loop Inv-loop3 μ
 gap-inside-requires c κs = let t : Turn = search in let v = t .before .loop3 .inv in let g = t .loop3-test .taken in inside-asks (v .1 g) g (turn-step (v .0) (v .1 g .turns) g .asks)
 
 up-requires-2 : tie.Need-up-requires-2 Inv-loop μ-loop Inv-loop3 μ-loop3 Inv-loop2 μ-loop2
-up-requires-2 c κs = let t : Turn = search in let v = t .before .loop3 .inv in let g = t .loop3-test .taken in turn-step (v .0) (v .1 g .turns) g .up
+up-requires-2 c κs = let t : Turn = search in let v = t .before .loop3 .inv in let g = t .loop3-test .taken in turn-up (v .0) (v .1 g .turns) g
 
 sub-row-at-2 : tie.Need-sub-row-at-2 Inv-loop μ-loop Inv-loop3 μ-loop3 Inv-loop2 μ-loop2
 sub-row-at-2 c = let t : Turn = search in let v = t .before .loop3 .inv in let g = t .loop3-test .taken in turn-above (v .0) (v .1 g .turns) g .left
@@ -180,10 +183,10 @@ down-requires-2 c κs =
     turn-down (v .0) (v .1 g .turns) g (u .up2 .kept .0)
 
 sub-c : tie.Need-sub-c Inv-loop μ-loop Inv-loop3 μ-loop3 Inv-loop2 μ-loop2
-sub-c c = let t : Turn = search in t .loop3-test .taken
+sub-c c = let u : tie.After-up2 Inv-loop μ-loop Inv-loop3 μ-loop3 Inv-loop2 μ-loop2 = search in let t : Turn = search in t .loop3-test .taken
 
 loop3-less : tie.Need-loop3-less Inv-loop μ-loop Inv-loop3 μ-loop3 Inv-loop2 μ-loop2
-loop3-less c = let t : Turn = search in omega (arith, t .loop3-test .taken)
+loop3-less c = let u : tie.After-up2 Inv-loop μ-loop Inv-loop3 μ-loop3 Inv-loop2 μ-loop2 = search in let t : Turn = search in omega (arith, t .loop3-test .taken)
 
 loop3-again : tie.Need-loop3-again Inv-loop μ-loop Inv-loop3 μ-loop3 Inv-loop2 μ-loop2
 loop3-again c =
@@ -252,6 +255,7 @@ differ-spec =
     loop3-holds
     loop2-less
     loop2-again
+    add-up
     row-at-requires-3
     add-gap-inside
     gap-inside-requires

@@ -9,5 +9,8 @@ has-room-spec =
     (tie.spec
     (λ c. search room)
     (λ c. search room)
+    (λ c. search room)
+    (λ c. search room)
     (λ c κs. search room)
+    (λ c. search room)
     (λ c. search room))

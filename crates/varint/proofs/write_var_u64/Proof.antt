@@ -1,10 +1,10 @@
--- `varint::write_var_u64` meets its contract: the loop goes by `Writing`, and the laws of writing answer each need. Assumes nothing.
-use Rattle.varint.proofs.Writing.{Writing, writing}
+-- `varint::write_var_u64` meets its contract: the loop goes by `Long`, and what it leaves is written by `write_few`. Assumes nothing.
+use Rattle.varint.proofs.Writing.{Long, writing-long}
 use Rattle.varint.proofs.write_var_u64.Statement.{statement}
 use Rattle.varint.proofs.write_var_u64.Tie as tie
 
 abbrev Inv-loop : tie.InvT-loop
-Inv-loop value buf₀ at v₀ next₀ buf v next = Writing value at buf₀ buf v next
+Inv-loop value buf₀ at v₀ next₀ buf v next = Long value at buf₀ buf v next
 
 abbrev μ-loop : tie.MeasureT-loop
 μ-loop value buf₀ at v₀ next₀ buf v next = v
@@ -15,15 +15,18 @@ write-var-u64-spec =
     (tie.spec
     Inv-loop
     μ-loop
-    (λ c. search writing)
-    (λ c. search writing)
-    (λ c. search writing)
-    (λ c. search writing)
-    (λ c. search writing)
-    (λ c. search writing)
-    (λ c. search writing)
-    (λ c. search writing)
-    (λ c. search writing)
-    (λ c. search writing)
-    (λ c. search writing)
-    (λ c. search writing))
+    (λ c. search writing-long)
+    (λ c. search writing-long)
+    (λ c. search writing-long)
+    (λ c. search writing-long)
+    (λ c. search writing-long)
+    (λ c. search writing-long)
+    (λ c. search writing-long)
+    (λ c. search writing-long)
+    (λ c. search writing-long)
+    (λ c. search writing-long)
+    (λ c. search writing-long)
+    (λ c. search writing-long)
+    (λ c κs. search writing-long)
+    (λ c. search writing-long)
+    (λ c. search writing-long))
