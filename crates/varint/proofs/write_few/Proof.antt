@@ -17,7 +17,6 @@ write-few-spec =
     μ-loop
     (λ c. search writing-few)
     (λ c. search writing-few)
-    (λ c κs. search writing-few)
     (λ c. search writing-few)
     (λ c. search writing-few)
     (λ c κs. search writing-few)
