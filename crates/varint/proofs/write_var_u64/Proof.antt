@@ -1,5 +1,5 @@
 -- `varint::write_var_u64` meets its contract: the loop goes by `Long`, and what it leaves is written by `write_few`. Assumes nothing.
-use Rattle.varint.proofs.Writing.{Long, writing}
+use Rattle.varint.proofs.Writing.{Long, writing-long}
 use Rattle.varint.proofs.write_var_u64.Statement.{statement}
 use Rattle.varint.proofs.write_var_u64.Tie as tie
 
@@ -15,18 +15,18 @@ write-var-u64-spec =
     (tie.spec
     Inv-loop
     μ-loop
-    (λ c. search writing)
-    (λ c. search writing)
-    (λ c. search writing)
-    (λ c. search writing)
-    (λ c. search writing)
-    (λ c. search writing)
-    (λ c. search writing)
-    (λ c. search writing)
-    (λ c. search writing)
-    (λ c. search writing)
-    (λ c. search writing)
-    (λ c. search writing)
-    (λ c κs. search writing)
-    (λ c. search writing)
-    (λ c. search writing))
+    (λ c. search writing-long)
+    (λ c. search writing-long)
+    (λ c. search writing-long)
+    (λ c. search writing-long)
+    (λ c. search writing-long)
+    (λ c. search writing-long)
+    (λ c. search writing-long)
+    (λ c. search writing-long)
+    (λ c. search writing-long)
+    (λ c. search writing-long)
+    (λ c. search writing-long)
+    (λ c. search writing-long)
+    (λ c κs. search writing-long)
+    (λ c. search writing-long)
+    (λ c. search writing-long))
