@@ -4,10 +4,10 @@ use Rattle.varint.proofs.write_few.Statement.{statement}
 use Rattle.varint.proofs.write_few.Tie as tie
 
 abbrev Inv-loop : tie.InvT-loop
-Inv-loop value buf₀ at v₀ here₀ left₀ buf v here left = Few value at buf₀ buf v here left
+Inv-loop value buf₀ at v₀ next₀ left₀ buf v next left = Few value at buf₀ buf v next left
 
 abbrev μ-loop : tie.MeasureT-loop
-μ-loop value buf₀ at v₀ here₀ left₀ buf v here left = left
+μ-loop value buf₀ at v₀ next₀ left₀ buf v next left = left
 
 pub write-few-spec : {M : Type 1} → statement M
 write-few-spec =

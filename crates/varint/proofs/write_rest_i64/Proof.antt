@@ -4,10 +4,10 @@ use Rattle.varint.proofs.write_rest_i64.Statement.{statement}
 use Rattle.varint.proofs.write_rest_i64.Tie as tie
 
 abbrev Inv-loop : tie.InvT-loop
-Inv-loop rest buf₀ at v₀ next₀ buf v next = Writing rest at buf₀ buf v next
+Inv-loop rest buf₀ at v₀ here₀ buf v here = Writing rest at buf₀ buf v here
 
 abbrev μ-loop : tie.MeasureT-loop
-μ-loop rest buf₀ at v₀ next₀ buf v next = v
+μ-loop rest buf₀ at v₀ here₀ buf v here = v
 
 pub write-rest-i64-spec : {M : Type 1} → statement M
 write-rest-i64-spec =
