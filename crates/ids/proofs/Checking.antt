@@ -36,7 +36,7 @@ past-says lc le c x h g = go (ltb lc c) (eqb lc c) (leb le x) refl refl refl
     go false false r a b e = says-no (λ l. let n : lc ≡ c → ⊥ = eqb-false lc c b in omega (arith, ltb-false lc c a))
 
 pub behind-says : (c e d s : ℕ) {t : Bool} → Says (numberOf c (e + 1) ≤ numberOf d s) t → Says (numberOf c e < numberOf d s) t
-behind-says c e d s a = record { right = λ h. omega (arith, a .right h); wrong = λ h l. a .wrong h (omega arith) }
+behind-says c e d s a = says-as (λ l. omega arith) (λ l. omega arith) a
 
 pub both-true : (p q : Bool) → p && q ≡ true → (p ≡ true) × (q ≡ true)
 both-true true q e = (refl, e)

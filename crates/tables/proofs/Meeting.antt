@@ -87,7 +87,7 @@ below-within h s = (omega (arith, h .0, below-few s .0), omega (arith, h .1, bel
 pub below-less : {room i j k p e q f i′ j′ k′ u v : ℕ} {row row′ : ℕ → Row} → (i < u) × (j < v) → Below room row i j k p e q f row′ i′ j′ k′ → (u + v) - (i′ + j′) < (u + v) - (i + j)
 below-less h s = omega (arith, h .0, h .1, below-on s)
 
--- and one from above too
+-- a step from above passes a row of either table at most
 above-few : {u v t p e q f u′ v′ t′ : ℕ} {row row′ : ℕ → Row} → Above row u v t p e q f row′ u′ v′ t′ → (u′ ≤ u) × (u ≤ u′ + 1) × (v′ ≤ v) × (v ≤ v′ + 1) × (t ≤ t′ + 1)
 above-few {p = p} {e = e} {q = q} {f = f} s = (
   ⊎-elim (λ l. omega (arith, s .one .off l)) (λ l. omega (arith, s .one .on l)) (split p (max p q)),
@@ -97,6 +97,7 @@ above-few {p = p} {e = e} {q = q} {f = f} s = (
   ⊎-elim (λ l. omega (arith, s .raised .new l)) (λ l. omega (arith, s .raised .old l)) (split (max p q) (min e f)),
 )
 
+-- and one at least
 pub above-less : {u v t p e q f u′ v′ t′ : ℕ} {row row′ : ℕ → Row} → 0 < u → 0 < v → Above row u v t p e q f row′ u′ v′ t′ → u′ + v′ < u + v
 above-less {p = p} {q = q} h g s = ⊎-elim (λ l. omega (arith, s .two .on (omega arith), above-few s .0)) (λ l. omega (arith, s .one .on (omega arith), above-few s .2)) (split p q)
 

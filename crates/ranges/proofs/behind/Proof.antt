@@ -1,6 +1,6 @@
 -- Each test that is taken refutes its part; the last is the answer. Assumes nothing.
 use native.Mathlib.Omega.{arith}
-use Rattle.tables.proofs.Saying.{says-no}
+use Rattle.tables.proofs.Saying.{says-no, says-as}
 use Rattle.tables.proofs.Testing.{less-says}
 use borrow.Author.Needs.{needs}
 use Rattle.ranges.proofs.behind.Statement.{statement}
@@ -16,9 +16,7 @@ returns-3 : tie.Need-returns-3
 returns-3 c = says-no (λ h. omega (arith, h .2))
 
 returns-4 : tie.Need-returns-4
-returns-4 c =
-    let s = less-says _ _ in
-    record { right = λ e. (omega arith, omega arith, omega arith, s .right e); wrong = λ e h. s .wrong e (h .3) }
+returns-4 c = says-as (λ l. (omega arith, omega arith, omega arith, l)) (λ h. h .3) (less-says _ _)
 
 pub behind-spec : {M : Type 1} → statement M
 behind-spec = tie.close (tie.spec returns returns-2 returns-3 (λ c. search needs) returns-4)

@@ -1,3 +1,4 @@
+-- The row is stored by its start and its end: one law over what the calls promise; a counted row has an index. Assumes nothing.
 use mathlib.Core.Path.{refl}
 use Rattle.tables.proofs.Uniting.{adds, counted-some}
 use borrow.Author.Needs.{needs}
