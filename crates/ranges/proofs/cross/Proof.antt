@@ -1,4 +1,4 @@
--- Both walks go on while they are apart, and then the one from below alone. Assumes nothing.
+-- Both walks go on by turns that surely fit, and then the one from below alone. Assumes nothing.
 use mathlib.Core.Path.{_∙_}
 use Prim.Native.Nat.{ℕ, _+_, _-_, _*_, _<_}
 use native.Mathlib.Omega.{arith}
