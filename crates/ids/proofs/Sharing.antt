@@ -12,7 +12,7 @@ use Rattle.tables.specs.Inner.Unite.{Passed}
 use Rattle.tables.specs.Inner.Differ.{GapStart, GapEnd}
 use Rattle.varint.proofs.Cases.{split}
 use Rattle.tables.proofs.Joining.{row-is}
-use Rattle.tables.proofs.Saying.{says-as, says-both}
+use Rattle.tables.proofs.Saying.{says-yes, says-no, says-as, says-both, says-one}
 use Rattle.tables.proofs.Crossing.{Crossing}
 use Rattle.tables.proofs.Differing.{Differing, gap-left}
 use Rattle.tables.proofs.Laying.{Lays, crossed-lays, differed-lays}
@@ -86,14 +86,6 @@ shares-far i j c x e gc gx hc hx i′ j′ s f late early sooner begun ahead som
 
 -- ## What is laid out
 
-says-true : {P : Type 0} (b : Bool) → Says P b → P → b ≡ true
-says-true true s p = refl
-says-true false s p = absurd (s .wrong refl p)
-
-says-false : {P : Type 0} (b : Bool) → Says P b → (P → ⊥) → b ≡ false
-says-false true s n = absurd (n (s .right refl))
-says-false false s n = refl
-
 module _ (room : ℕ) (oc os oe : List ℕ) (k : ℕ) (oc′ os′ oe′ : List ℕ) (r : ℕ) {s t p q i j c : ℕ} (w : Shared) where
   lays : Shares s t p q i j c w → Puts room oc os oe k c (w .start) (w .end) (w .on) oc′ os′ oe′ r
       → Lays room (idRow oc os oe) k (max s t) (min p q) (idRow oc′ os′ oe′) r
@@ -101,8 +93,8 @@ module _ (room : ℕ) (oc os oe : List ℕ) (k : ℕ) (oc′ os′ oe′ : List 
       record {
         below = λ v m. row-is (ap₂ numberOf (u .client .below v m) (u .start .below v m)) (ap₂ numberOf (u .client .below v m) (u .end .below v m)) refl;
         here = λ l m. row-is (ap₂ numberOf (u .client .here m) (u .start .here m) ∙ sym (h .start l)) (ap₂ numberOf (u .client .here m) (u .end .here m) ∙ sym (h .end l)) refl;
-        new = λ l. u .count .yes′ (says-true (w .on) (h .says) l);
-        old = λ l. u .count .no′ (says-false (w .on) (h .says) (λ z. omega arith));
+        new = λ l. u .count .yes′ (says-one (w .on) true (h .says) (says-yes l));
+        old = λ l. u .count .no′ (says-one (w .on) false (h .says) (says-no (λ z. omega arith)));
       }
 
 -- the end of a gap

@@ -1,6 +1,6 @@
 // Range tables: rows (start, end) in a lent slice of u32, as start, end, start, end, with a count.
 ghost use mathlib.Core.Path.{_≡_};
-ghost use Prim.Native.Nat.{ℕ, _+_, _-_, _*_, _<_, _≤_, min, max};
+ghost use Prim.Native.Nat.{ℕ, _+_, _-_, _*_, _<_, _≤_, max};
 ghost use mathlib.Core.List.{_++_};
 ghost use lib.ListN.{length};
 ghost use Rattle.tables.specs.Answers.{Says};
@@ -42,11 +42,7 @@ pub enum Found {
 fn room(len: usize) -> usize
     ensures { λ r. ⌜ r ≡ most len ⌝ }
 {
-    if tables::ROW_LIMIT < len / 2 {
-        tables::ROW_LIMIT
-    } else {
-        len / 2
-    }
+    tables::lesser(tables::ROW_LIMIT, len / 2)
 }
 
 fn start_at(t: &[u32], i: usize) -> u32
@@ -142,18 +138,6 @@ fn finish(out: &mut [u32], k: usize) -> tables::Made
     }
     tables::zero(&mut out[2 * k..]);
     tables::Made::Rows(k)
-}
-
-fn lower(x: u32, y: u32) -> u32
-    ensures { λ r. ⌜ r ≡ min x y ⌝ }
-{
-    if x < y { x } else { y }
-}
-
-fn higher(x: u32, y: u32) -> u32
-    ensures { λ r. ⌜ r ≡ max x y ⌝ }
-{
-    if x < y { y } else { x }
 }
 
 // ## Questions
@@ -421,8 +405,8 @@ pub fn insert(
     let p = start_or(rows, n, i, s);
     let q = end_or(rows, j, e);
     let piece = Piece {
-        start: lower(p, s),
-        end: higher(e, q),
+        start: tables::lower(p, s),
+        end: tables::higher(e, q),
     };
     splice(rows, n, i, j, piece, none, out)
 }
@@ -614,7 +598,7 @@ fn add(out: &mut [u32], most: usize, k: usize, e: u32, x: u32, y: u32) -> usize
 {
     set_start(out, k, x);
     let r = counted(k, e as u64 + 1, x);
-    set_end(out, r - 1, higher(e, y));
+    set_end(out, r - 1, tables::higher(e, y));
     r
 }
 
@@ -648,7 +632,7 @@ fn run(a: &[u32], n: usize, b: &[u32], m: usize, out: &mut [u32], most: usize, w
         i = index(p, q, i + 1, i);
         j = index(p, q, j, j + 1);
         k = add(out, most, k, e, x, y);
-        e = higher(e, y);
+        e = tables::higher(e, y);
         let o = first(p, q, q, v);
         p = first(p, q, u, p);
         q = o;
@@ -766,8 +750,8 @@ fn up(out: &mut [u32], most: usize, w: Low, p: Piece, q: Piece) -> Low
     requires { ⌜ w .k ≤ 2 * rowLimit ⌝ }
     ensures { λ r. ⌜ Below most (rowAt (now (out .entry))) (w .i) (w .j) (w .k) (p .start) (p .end) (q .start) (q .end) (rowAt (now (out .exit))) (r .i) (r .j) (r .k) ⌝ }
 {
-    let x = higher(p.start, q.start);
-    let y = lower(p.end, q.end);
+    let x = tables::higher(p.start, q.start);
+    let y = tables::lower(p.end, q.end);
     let i = passed(w.i, p.end, y);
     let j = passed(w.j, q.end, y);
     let k = keep(out, most, w.k, x, y);
@@ -798,8 +782,8 @@ fn down(out: &mut [u32], z: High, p: Piece, q: Piece) -> High
     requires { ⌜ 0 < z .t ⌝ }
     ensures { λ r. ⌜ Above (rowAt (now (out .entry))) (z .u) (z .v) (z .t) (p .start) (p .end) (q .start) (q .end) (rowAt (now (out .exit))) (r .u) (r .v) (r .t) ⌝ }
 {
-    let x = higher(p.start, q.start);
-    let y = lower(p.end, q.end);
+    let x = tables::higher(p.start, q.start);
+    let y = tables::lower(p.end, q.end);
     let u = dropped(z.u, p.start, x);
     let v = dropped(z.v, q.start, x);
     let t = raised(z.t, x, y);
@@ -1151,8 +1135,8 @@ fn grow(out: &mut [u32], k: usize, s: u32, e: u32) -> usize
     }
     let i = tail_below(out, k, s as u64);
     let j = starts_below(out, k, i, e as u64 + 1);
-    let p = lower(start_or(out, k, i, s), s);
-    let q = higher(e, end_or(out, j, e));
+    let p = tables::lower(start_or(out, k, i, s), s);
+    let q = tables::higher(e, end_or(out, j, e));
     let r = i + 1 + (k - j);
     if room(out.len()) < r {
         return r;

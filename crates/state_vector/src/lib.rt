@@ -91,7 +91,7 @@ pub fn set_max(
         clear(to_clients, to_clocks);
         return Made::Refused(Refusal::Malformed);
     }
-    let k = larger(clock_at(clients, clocks, count, client.0), clock.0);
+    let k = tables::higher(clock_at(clients, clocks, count, client.0), clock.0);
     set(clients, clocks, count, client.0, k, to_clients, to_clocks)
 }
 
@@ -255,19 +255,7 @@ fn smaller_at(clients: &[u64], clocks: &[u32], n: usize, client: u64, clock: u32
     if !stands(clients, n, i, client) {
         return clock;
     }
-    least(clocks[i], clock)
-}
-
-fn least(a: u32, b: u32) -> u32
-    ensures { λ r. ⌜ r ≡ min a b ⌝ }
-{
-    if a < b { a } else { b }
-}
-
-fn larger(a: u32, b: u32) -> u32
-    ensures { λ r. ⌜ r ≡ max a b ⌝ }
-{
-    if a < b { b } else { a }
+    tables::lower(clocks[i], clock)
 }
 
 // How many rows two slices of these lengths may hold.
@@ -526,7 +514,7 @@ fn larger_front(clocks: &[u32], b_clocks: &[u32], n: usize, to_clocks: &mut [u32
 {
     let mut i: usize = 0;
     while i < n {
-        to_clocks[i] = larger(clocks[i], b_clocks[i]);
+        to_clocks[i] = tables::higher(clocks[i], b_clocks[i]);
         i += 1;
     }
 }
@@ -594,7 +582,7 @@ fn merge_rows(
         let p = clients[i];
         let q = b_clients[j];
         let x = lower(p, q);
-        let y = larger(counted(p, x, clocks[i]), counted(q, x, b_clocks[j]));
+        let y = tables::higher(counted(p, x, clocks[i]), counted(q, x, b_clocks[j]));
         store(to_clients, to_clocks, most, k, x, y);
         i = passed(i, p, x);
         j = passed(j, q, x);

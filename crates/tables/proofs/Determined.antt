@@ -13,11 +13,19 @@ use Rattle.tables.proofs.Giving.{One, gives-determined, tells-determine
 use Rattle.tables.proofs.Saying.{says-one}
 use Rattle.tables.proofs.Viewing.{made-same, told-same}
 use Rattle.tables.proofs.lesser.Reads as lesser
+use Rattle.tables.proofs.lower.Reads as lower
+use Rattle.tables.proofs.higher.Reads as higher
 use Rattle.tables.proofs.zero.Reads as zero
 use Rattle.tables.proofs.zero_wide.Reads as zero-wide
 
 pub lesser-determined : Answers lesser.Learnt
 lesser-determined κ x r s y z p q = p ∙ sym q
+
+pub lower-determined : Answers lower.Learnt
+lower-determined κ x r s y z p q = p ∙ sym q
+
+pub higher-determined : Answers higher.Learnt
+higher-determined κ x r s y z p q = p ∙ sym q
 
 pub zero-determined : Settles zero.Learnt (λ κ y. now (y .0))
 zero-determined κ x r s y z p q = (refl, p ∙ sym q)

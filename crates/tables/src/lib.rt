@@ -1,6 +1,6 @@
-// What every table shares: client numbers and clocks, the limits, the answers, the smaller of two counts, and the zeroing of lent slices.
+// What every table shares: client numbers and clocks, the limits, the answers, the smaller and the larger of two numbers, and the zeroing of lent slices.
 ghost use mathlib.Core.Path.{_≡_};
-ghost use Prim.Native.Nat.{min};
+ghost use Prim.Native.Nat.{min, max};
 ghost use lib.ListN.{length, replicate};
 
 // A client number: no clock can be passed for one.
@@ -39,6 +39,20 @@ pub fn lesser(x: usize, y: usize) -> usize
     ensures { λ r. ⌜ r ≡ min x y ⌝ }
 {
     if x < y { x } else { y }
+}
+
+// The smaller of two numbers.
+pub fn lower(x: u32, y: u32) -> u32
+    ensures { λ r. ⌜ r ≡ min x y ⌝ }
+{
+    if x < y { x } else { y }
+}
+
+// The larger of two numbers.
+pub fn higher(x: u32, y: u32) -> u32
+    ensures { λ r. ⌜ r ≡ max x y ⌝ }
+{
+    if x < y { y } else { x }
 }
 
 // Every element becomes zero.

@@ -33,6 +33,6 @@ larger-front-spec =
     (λ c. search needs)
     (λ c.
     let l : tie.At-loop Inv-loop μ-loop = search in
-    (firsts-store (l .loop .inv .0) (omega arith) (c .larger .ensures), simp length-set (omega arith), omega arith))
+    (firsts-store (l .loop .inv .0) (omega arith) (c .higher .ensures), simp length-set (omega arith), omega arith))
     (λ c. c .before .loop .inv .1)
     (λ c. firsts-all (c .before .loop .inv .0) (omega arith)))

@@ -23,5 +23,5 @@ set-max-spec =
     (λ c. search needs)
     (λ c.
     let e : tie.After-set = search in
-    let l : tie.After-larger = search in
-    rw (l .larger .ensures, l .before .clock-at .ensures) at (e .set .ensures)))
+    let l : tie.After-higher = search in
+    rw (l .higher .ensures, l .before .clock-at .ensures) at (e .set .ensures)))

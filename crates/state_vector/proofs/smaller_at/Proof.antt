@@ -24,4 +24,4 @@ smaller-at-spec =
     (λ c.
     let at-stands : tie.After-stands = search in
     let at-start : tie.Start = search in
-    smaller-here (at-start .pre) (at-stands .before .find .ensures) _ _ (says-left (at-stands .stands .ensures) (c .before .before .if1 .left)) (c .least .ensures)))
+    smaller-here (at-start .pre) (at-stands .before .find .ensures) _ _ (says-left (at-stands .stands .ensures) (c .before .before .if1 .left)) (c .lower .ensures)))
