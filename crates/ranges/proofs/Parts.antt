@@ -1,4 +1,4 @@
--- Rows that move inside a part of a slice that was lent. Assumes nothing.
+-- Rows in a part of a slice, and rows that move in a part that was lent. Assumes nothing.
 use mathlib.Core.Path.{_≡_, refl, ap, sym, subst, _∙_}
 use mathlib.Core.Logic.{⊎-elim}
 use mathlib.Core.List.{List, _++_}
@@ -9,9 +9,37 @@ use lib.ListN.{length, getD, take, drop, List·getD-append, length-take, length-
 use lib.Seq.{getD-take, getD-drop, getD-append-add}
 use Rattle.tables.specs.Inner.Rows.{Row}
 use Rattle.tables.specs.Inner.Edit.{Moved}
+use Rattle.tables.specs.Inner.Differ.{GapStart, GapEnd}
 use Rattle.varint.proofs.Cases.{split}
 use Rattle.tables.proofs.Joining.{row-is}
 use Rattle.ranges.specs.Inner.{rowAt}
+
+-- the elements from a on
+part-is : (l : List ℕ) (a n : ℕ) → n < length l - a → getD (midOf a (length l - a) l) n 0 ≡ getD l (a + n) 0
+part-is l a n h = getD-take (length l - a) (drop a l) n 0 h ∙ getD-drop a l n 0
+
+-- and those from row j on
+abbrev pub part : List ℕ → ℕ → List ℕ
+part l j = midOf (2 * j) (length l - 2 * j) l
+
+pub row-part : (l : List ℕ) (j y : ℕ) → 2 * y + 1 < length l - 2 * j → rowAt (part l j) y ≡ rowAt l (j + y)
+row-part l j y h =
+    row-is (part-is l (2 * j) (2 * y) (omega arith) ∙ ap (λ (n : ℕ). getD l n 0) (let z : 2 * j + 2 * y ≡ 2 * (j + y) = omega arith in z))
+    (part-is l (2 * j) (2 * y + 1) (omega arith) ∙ ap (λ (n : ℕ). getD l n 0) (let z : 2 * j + (2 * y + 1) ≡ 2 * (j + y) + 1 = omega arith in z))
+    refl
+
+-- of m rows, m - j stand there
+pub part-rows : (l : List ℕ) (m j : ℕ) → 2 * m ≤ length l → 2 * (m - j) ≤ length (part l j)
+part-rows l m j h = omega (arith, length-take (length l - 2 * j) (drop (2 * j) l), length-drop (2 * j) l)
+
+-- a gap between two of them is one between two rows
+pub gap-part : (l : List ℕ) (lo : ℕ) {top m j s e : ℕ} → 2 * m ≤ length l → (0 < j) × (j < m - lo) → GapStart (rowAt (part l lo)) j s × GapEnd top (rowAt (part l lo)) (m - lo) j e → GapStart (rowAt l) (lo + j) s × GapEnd top (rowAt l) m (lo + j) e
+gap-part l lo {j = j} f h p = (
+  record { first = λ z. absurd (omega (arith, h .0)); next = λ _. p .0 .next (h .0) ∙ (ap (λ (r : Row). r .end) (row-part l lo (j - 1) (omega (arith, h .1))) ∙ ap (λ (i : ℕ). rowAt l i .end) (let z : lo + (j - 1) ≡ lo + j - 1 = omega (arith, h .0) in z)) },
+  record { inside = λ _. p .1 .inside (h .1) ∙ ap (λ (r : Row). r .start) (row-part l lo j (omega (arith, h .1))); last = λ z. absurd (omega (arith, h .1)) },
+)
+
+-- ## The part is lent, and other elements stand there then
 
 -- the elements from a on are lent, and ys stand there then
 module _ (l ys : List ℕ) (a : ℕ) (fits : a ≤ length l) (same : length ys ≡ length (midOf a (length l - a) l)) where
@@ -20,9 +48,6 @@ module _ (l ys : List ℕ) (a : ℕ) (fits : a ≤ length l) (same : length ys �
 
   pub part-length : length ys ≡ length l - a
   part-length = omega (arith, same, length-take (length l - a) (drop a l), length-drop a l)
-
-  part-is : (n : ℕ) → n < length l - a → getD (midOf a (length l - a) l) n 0 ≡ getD l (a + n) 0
-  part-is n h = getD-take (length l - a) (drop a l) n 0 h ∙ getD-drop a l n 0
 
   put-before : (n : ℕ) → n < a → getD (putMid a (length l - a) l ys) n 0 ≡ getD l n 0
   put-before n h = List·getD-append (take a l) (ys ++ postOf a (length l - a) l) 0 n (omega (arith, front)) ∙ getD-take a l n 0 h
@@ -33,19 +58,9 @@ module _ (l ys : List ℕ) (a : ℕ) (fits : a ≤ length l) (same : length ys �
       ∙ (getD-append-add (take a l) (ys ++ postOf a (length l - a) l) n 0 ∙ List·getD-append ys (postOf a (length l - a) l) 0 n h)
 
 -- and so of rows, from row j on
-module _ (l ys : List ℕ) (j : ℕ) (fits : 2 * j ≤ length l) (same : length ys ≡ length (midOf (2 * j) (length l - 2 * j) l)) where
-  abbrev part : List ℕ
-  part = midOf (2 * j) (length l - 2 * j) l
-
+module _ (l ys : List ℕ) (j : ℕ) (fits : 2 * j ≤ length l) (same : length ys ≡ length (part l j)) where
   abbrev whole : List ℕ
   whole = putMid (2 * j) (length l - 2 * j) l ys
-
-  row-part : (y : ℕ) → 2 * y + 1 < length ys → rowAt part y ≡ rowAt l (j + y)
-  row-part y h =
-      let e = part-length l ys (2 * j) fits same in
-      row-is (part-is l ys (2 * j) fits same (2 * y) (omega arith) ∙ ap (λ (n : ℕ). getD l n 0) (let z : 2 * j + 2 * y ≡ 2 * (j + y) = omega arith in z))
-      (part-is l ys (2 * j) fits same (2 * y + 1) (omega arith) ∙ ap (λ (n : ℕ). getD l n 0) (let z : 2 * j + (2 * y + 1) ≡ 2 * (j + y) + 1 = omega arith in z))
-      refl
 
   row-put : (y : ℕ) → 2 * y + 1 < length ys → rowAt whole (j + y) ≡ rowAt ys y
   row-put y h =
@@ -56,14 +71,14 @@ module _ (l ys : List ℕ) (j : ℕ) (fits : 2 * j ≤ length l) (same : length 
   row-before : (y : ℕ) → y < j → rowAt whole y ≡ rowAt l y
   row-before y h = row-is (put-before l ys (2 * j) fits same (2 * y) (omega arith)) (put-before l ys (2 * j) fits same (2 * y + 1) (omega arith)) refl
 
-  pub moved-part : (b : ℕ) → j ≤ b → 2 * (b + 1) ≤ length l → Moved (rowAt part) 0 (b - j) (rowAt part) 1 (rowAt ys) → Moved (rowAt l) j b (rowAt l) (j + 1) (rowAt whole)
+  pub moved-part : (b : ℕ) → j ≤ b → 2 * (b + 1) ≤ length l → Moved (rowAt (part l j)) 0 (b - j) (rowAt (part l j)) 1 (rowAt ys) → Moved (rowAt l) j b (rowAt l) (j + 1) (rowAt whole)
   moved-part b h k m =
       let e = part-length l ys (2 * j) fits same in
       record {
         before2 = λ x o. ⊎-elim (row-before x)
-            (λ g. let z : j + 0 ≡ x = omega arith in subst (λ (y : ℕ). rowAt whole y ≡ rowAt l y) z (row-put 0 (omega arith) ∙ (m .before2 0 (omega arith) ∙ row-part 0 (omega arith)))) (split x j);
+            (λ g. let z : j + 0 ≡ x = omega arith in subst (λ (y : ℕ). rowAt whole y ≡ rowAt l y) z (row-put 0 (omega arith) ∙ (m .before2 0 (omega arith) ∙ row-part l j 0 (omega arith)))) (split x j);
         there = λ x o. ap (rowAt whole) (let z : j + 1 + x ≡ j + (1 + x) = omega arith in z)
-            ∙ (row-put (1 + x) (omega arith) ∙ (m .there x (omega arith) ∙ (ap (rowAt part) (let z : 0 + x ≡ x = omega arith in z) ∙ row-part x (omega arith))));
+            ∙ (row-put (1 + x) (omega arith) ∙ (m .there x (omega arith) ∙ (ap (rowAt (part l j)) (let z : 0 + x ≡ x = omega arith in z) ∙ row-part l j x (omega arith))));
       }
 
 -- where nothing moves

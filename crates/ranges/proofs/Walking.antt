@@ -19,6 +19,7 @@ use Rattle.tables.proofs.Gaps.{gaps, gaps-plain, gaps-combined}
 use Rattle.tables.proofs.Meeting.{Meeting, meeting-none, meeting-turn, meeting-top, meeting-rest, meeting-halves, meeting-less, below-room, below-within, below-less, turns-less}
 use Rattle.ranges.specs.Inner.{rowAt, rowsOf, Ruled}
 use Rattle.ranges.proofs.Editing.{ruled-plain}
+use Rattle.ranges.proofs.Parts.{part, part-rows}
 
 -- Asks j is what a look at row j of the other rows asks; the output had len elements
 pub record Walk (a : List ℕ) (n : ℕ) (rb : ℕ → inner.Row) (m : ℕ) (Asks : ℕ → Type 0) (most len : ℕ) (out : List ℕ) (i j k u v t : ℕ) : Type 0 where
@@ -159,13 +160,16 @@ module _ {i j k u v room p e q f i′ j′ k′ : ℕ} {on : Bool} {row row′ :
 
 -- ## The gaps of a table
 
--- what a look at a gap between two rows asks, from below and from above
-module _ {m lo c i j k u v t len : ℕ} (s : Inside m lo c i j k u v t) (g : 0 < c) where
-  pub inside-asks : (2 * m ≤ len) × (lo + j ≤ m) → (2 * m ≤ len) × ((0 < lo + j) × (lo + j < m))
-  inside-asks h = (h .0, (s .behind, omega (arith, s .before, s .turns .right)))
+-- what a look at a gap between two rows asks, from below and from above: it is read in the part from row lo on
+module _ (b : List ℕ) {m lo c i j k u v t : ℕ} (s : Inside m lo c i j k u v t) (g : 0 < c) (f : 2 * m ≤ length b) where
+  abbrev asks : ℕ → Type 0
+  asks z = (2 * (m - lo) ≤ length (part b lo)) × ((0 < z) × (z < m - lo))
 
-  pub inside-asks-above : (2 * m ≤ len) × (lo + (v - 1) ≤ m) → (2 * m ≤ len) × ((0 < lo + (v - 1)) × (lo + (v - 1) < m))
-  inside-asks-above h = (h .0, (omega (arith, s .turns .right), omega (arith, s .before, s .turns .right)))
+  pub inside-asks : asks j
+  inside-asks = (part-rows b m lo f, (s .behind, omega (arith, s .before, s .turns .right)))
+
+  pub inside-asks-above : asks (v - 1)
+  inside-asks-above = (part-rows b m lo f, (omega (arith, s .turns .right, s .behind), omega (arith, s .before, s .turns .right)))
 
 module _ {a : List ℕ} {n : ℕ} {b : List ℕ} {m lo hi : ℕ} (p : Ruled a n) (q : Ruled b m) (f : GapsFrom (rowAt b) m lo) (g : GapsTo 4294967295 (rowAt b) m hi) where
   pub walk-gaps : {most : ℕ} {out : List ℕ} → 2 * most ≤ length out → Walk a n (gaps 4294967295 (rowAt b) m lo) (hi - lo) (Gap b m lo) most (length out) out 0 0 0 n (hi - lo) most

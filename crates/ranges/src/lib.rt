@@ -922,7 +922,7 @@ fn turns_inside(m: usize, lo: usize, w: Low, z: High) -> usize
     if z.t < w.k {
         return 0;
     }
-    if lo + w.j == 0 {
+    if w.j == 0 {
         return 0;
     }
     if m < lo + z.v {
@@ -969,6 +969,8 @@ fn differ(a: &[u32], n: usize, b: &[u32], m: usize, out: &mut [u32], most: usize
 {
     let lo = gaps_from(b, m);
     let hi = gaps_to(b, m);
+    let part = &b[2 * lo..];
+    let rows = m - lo;
     let mut w = Low { i: 0, j: 0, k: 0 };
     let mut z = High {
         u: n,
@@ -982,8 +984,8 @@ fn differ(a: &[u32], n: usize, b: &[u32], m: usize, out: &mut [u32], most: usize
         w = up(out, z.t, w, row_at(a, w.i), gap_at(b, m, lo + w.j));
         let mut c = turns_inside(m, lo, w, z);
         while 0 < c {
-            w = up(out, w.k + 1, w, row_at(a, w.i), gap_inside(b, m, lo + w.j));
-            z = down(out, z, row_at(a, z.u - 1), gap_inside(b, m, lo + (z.v - 1)));
+            w = up(out, w.k + 1, w, row_at(a, w.i), gap_inside(part, rows, w.j));
+            z = down(out, z, row_at(a, z.u - 1), gap_inside(part, rows, z.v - 1));
             c -= 1;
         }
     }

@@ -55,8 +55,11 @@ module _ (cap : ℕ) (row : ℕ → Row) (m : ℕ) where
     ⊎-elim (λ h. p .1 .inside h ∙ sym (end-inside j h)) (λ h. p .1 .last h ∙ sym (end-last j h)) (split j m),
   )
 
+pub gaps-few : {m lo : ℕ} {row : ℕ → Row} → GapsFrom row m lo → lo ≤ m
+gaps-few {lo = lo} f = ⊎-elim (λ h. omega (arith, f .few, f .none h .0)) (λ h. omega arith) (split 0 lo)
+
 pub gaps-order : {cap m lo hi : ℕ} {row : ℕ → Row} → GapsFrom row m lo → GapsTo cap row m hi → lo ≤ hi
-gaps-order {lo = lo} f g = ⊎-elim (λ h. omega (arith, f .few, f .none h .0, g .least)) (λ h. omega arith) (split 0 lo)
+gaps-order f g = omega (arith, gaps-few f, g .least)
 
 -- j rows end at z or before, and the next ends past it
 record Spot (row : ℕ → Row) (m z : ℕ) : Type 0 where

@@ -119,7 +119,6 @@ pub inside-less : {m lo c i j k p e q f i′ j′ k′ u v t p₂ e₂ q₂ f₂
 inside-less {e = e} {f = f} g h s r =
     record {
       turns = turns-less (g .turns) h s r;
-      from = g .from;
       behind = ⊎-elim (λ l. omega (arith, g .behind, s .two .off l)) (λ l. omega (arith, g .behind, s .two .on l)) (split (min e f) f);
       before = omega (arith, g .before, above-few r .2);
     }

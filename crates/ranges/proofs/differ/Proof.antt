@@ -6,11 +6,12 @@ use Prim.Native.Nat.{ℕ, _+_, _-_, _≤_, _<_}
 use native.Mathlib.Omega.{arith}
 use lib.ListN.{length}
 use Rattle.tables.specs.Inner.Ends.{Inside}
-use Rattle.tables.proofs.Gaps.{gaps, gap-read, gaps-order}
+use Rattle.tables.proofs.Gaps.{gaps, gap-read, gaps-few, gaps-order}
 use Rattle.tables.proofs.Meeting.{above-less, meeting-less, inside-less}
 use Rattle.ranges.specs.declared.Low.{Low}
 use Rattle.ranges.specs.declared.High.{High}
 use Rattle.ranges.specs.Inner.{rowAt}
+use Rattle.ranges.proofs.Parts.{gap-part}
 use Rattle.ranges.proofs.Walking.{Walk, Gap, walk-gaps, gaps-differ, walk-on, walk-to, walk-last, walk-settle, walk-halves, top-above, top-down, top-more, turn-step, turn-up, turn-above, turn-down, turn-more, rest-step, rest-more, rest-within, rest-less, inside-asks, inside-asks-above}
 use borrow.Author.Needs.{needs}
 use Rattle.ranges.proofs.differ.Statement.{statement}
@@ -24,24 +25,24 @@ left w z = (z .u + z .v) - (w .i + w .j)
 
 -- the walk from above alone
 abbrev Inv-loop : tie.InvT-loop
-Inv-loop a n b m out₀ most lo hi w z₀ out z = Here a n b m most lo hi out₀ out w z
+Inv-loop a n b m out₀ most lo hi part rows w z₀ out z = Here a n b m most lo hi out₀ out w z
 
 abbrev μ-loop : tie.MeasureT-loop
-μ-loop a n b m out₀ most lo hi w z₀ out z = z .u + z .v
+μ-loop a n b m out₀ most lo hi part rows w z₀ out z = z .u + z .v
 
 -- turns of both, between the rows
 abbrev Inv-loop3 : tie.InvT-loop3
-Inv-loop3 a n b m out₀ most lo hi w₀ z₀ c₀ out w z c = Here a n b m most lo hi out₀ out w z × (0 < c → Inside m lo c (w .i) (w .j) (w .k) (z .u) (z .v) (z .t)) × (left w z ≤ left w₀ z₀)
+Inv-loop3 a n b m out₀ most lo hi part rows w₀ z₀ c₀ out w z c = Here a n b m most lo hi out₀ out w z × (0 < c → Inside m lo c (w .i) (w .j) (w .k) (z .u) (z .v) (z .t)) × (left w z ≤ left w₀ z₀)
 
 abbrev μ-loop3 : tie.MeasureT-loop3
-μ-loop3 a n b m out₀ most lo hi w₀ z₀ c₀ out w z c = c
+μ-loop3 a n b m out₀ most lo hi part rows w₀ z₀ c₀ out w z c = c
 
 -- both
 abbrev Inv-loop2 : tie.InvT-loop2
-Inv-loop2 a n b m out₀ most lo hi w₀ z₀ out w z = Here a n b m most lo hi out₀ out w z
+Inv-loop2 a n b m out₀ most lo hi part rows w₀ z₀ out w z = Here a n b m most lo hi out₀ out w z
 
 abbrev μ-loop2 : tie.MeasureT-loop2
-μ-loop2 a n b m out₀ most lo hi w₀ z₀ out w z = left w z
+μ-loop2 a n b m out₀ most lo hi part rows w₀ z₀ out w z = left w z
 
 -- a step of each loop
 abbrev Top : Type 0
@@ -53,21 +54,49 @@ Rest = tie.Then2 Inv-loop μ-loop Inv-loop3 μ-loop3 Inv-loop2 μ-loop2
 abbrev Turn : Type 0
 Turn = tie.In-loop3 Inv-loop μ-loop Inv-loop3 μ-loop3 Inv-loop2 μ-loop2
 
+-- the right table, at a turn
+abbrev rest-of : Turn → Rest
+rest-of t = search
+
+abbrev start-of : Rest → tie.Start Inv-loop μ-loop Inv-loop3 μ-loop3 Inv-loop2 μ-loop2
+start-of r = search
+
+abbrev right : Turn → List ℕ
+right t = start-of (rest-of t) .args .b .now
+
 gaps-to-requires : tie.Need-gaps-to-requires Inv-loop μ-loop Inv-loop3 μ-loop3 Inv-loop2 μ-loop2
 gaps-to-requires c κs = let s : tie.Start Inv-loop μ-loop Inv-loop3 μ-loop3 Inv-loop2 μ-loop2 = search in (omega (arith, s .pre .1 .0 .fits), s .pre .1 .0 .few)
 
-sub-t12 : tie.Need-sub-t12 Inv-loop μ-loop Inv-loop3 μ-loop3 Inv-loop2 μ-loop2
-sub-t12 c = gaps-order (c .before .gaps-from .ensures) (c .gaps-to .ensures)
+mul-part : tie.Need-mul-part Inv-loop μ-loop Inv-loop3 μ-loop3 Inv-loop2 μ-loop2
+mul-part c = omega (arith, c .before .gaps-from .ensures .few)
+
+mul-part-2 : tie.Need-mul-part-2 Inv-loop μ-loop Inv-loop3 μ-loop3 Inv-loop2 μ-loop2
+mul-part-2 c = omega (arith, c .before .gaps-from .ensures .few)
+
+sub-part : tie.Need-sub-part Inv-loop μ-loop Inv-loop3 μ-loop3 Inv-loop2 μ-loop2
+sub-part c = let s : tie.Start Inv-loop μ-loop Inv-loop3 μ-loop3 Inv-loop2 μ-loop2 = search in omega (arith, gaps-few (c .before .gaps-from .ensures), s .pre .1 .0 .fits)
+
+part-part-start : tie.Need-part-part-start Inv-loop μ-loop Inv-loop3 μ-loop3 Inv-loop2 μ-loop2
+part-part-start c = let h = sub-part c in search needs
+
+part-part-end : tie.Need-part-part-end Inv-loop μ-loop Inv-loop3 μ-loop3 Inv-loop2 μ-loop2
+part-part-end c = let h = sub-part c in search needs
+
+sub-rows : tie.Need-sub-rows Inv-loop μ-loop Inv-loop3 μ-loop3 Inv-loop2 μ-loop2
+sub-rows c = gaps-few (c .before .before .gaps-from .ensures)
+
+sub-t14 : tie.Need-sub-t14 Inv-loop μ-loop Inv-loop3 μ-loop3 Inv-loop2 μ-loop2
+sub-t14 c = gaps-order (c .before .before .gaps-from .ensures) (c .before .gaps-to .ensures)
 
 -- ## The gap behind the last row
 
 loop-holds : tie.Need-loop-holds Inv-loop μ-loop Inv-loop3 μ-loop3 Inv-loop2 μ-loop2
 loop-holds c =
     let s : tie.Start Inv-loop μ-loop Inv-loop3 μ-loop3 Inv-loop2 μ-loop2 = search in
-    walk-gaps (s .pre .0) (s .pre .1 .0) (c .before .gaps-from .ensures) (c .gaps-to .ensures) (s .pre .1 .1)
+    walk-gaps (s .pre .0) (s .pre .1 .0) (c .before .before .gaps-from .ensures) (c .before .gaps-to .ensures) (s .pre .1 .1)
 
 behind-requires : tie.Need-behind-requires Inv-loop μ-loop Inv-loop3 μ-loop3 Inv-loop2 μ-loop2
-behind-requires c κs = (c .before .before .gaps-from .ensures .few, walk-last (c .loop .inv))
+behind-requires c κs = (c .before .before .before .gaps-from .ensures .few, walk-last (c .loop .inv))
 
 sub-row-at : tie.Need-sub-row-at Inv-loop μ-loop Inv-loop3 μ-loop3 Inv-loop2 μ-loop2
 sub-row-at c = let t : Top = search in top-above (t .before .before .loop .inv) (t .before .behind .ensures) (t .if1 .taken) .left
@@ -118,9 +147,9 @@ turns-inside-requires : tie.Need-turns-inside-requires Inv-loop μ-loop Inv-loop
 turns-inside-requires c κs =
     let u : tie.After-up Inv-loop μ-loop Inv-loop3 μ-loop3 Inv-loop2 μ-loop2 = search in
     let r : Rest = search in
-    let g : tie.After-gaps-from Inv-loop μ-loop Inv-loop3 μ-loop3 Inv-loop2 μ-loop2 = search in
+    let l : tie.At-loop Inv-loop μ-loop Inv-loop3 μ-loop3 Inv-loop2 μ-loop2 = search in
     let v = rest-within (r .before .between .ensures) (r .if2 .taken) (u .up .ensures) in
-    (g .gaps-from .ensures .few, (v .0, (v .1, walk-last (r .before .before .loop2 .inv))))
+    (l .before .before .before .gaps-from .ensures .few, (v .0, (v .1, walk-last (r .before .before .loop2 .inv))))
 
 loop2-less : tie.Need-loop2-less Inv-loop μ-loop Inv-loop3 μ-loop3 Inv-loop2 μ-loop2
 loop2-less c =
@@ -150,11 +179,8 @@ add-up c = let t : Turn = search in let v = t .before .loop3 .inv in let g = t .
 row-at-requires-3 : tie.Need-row-at-requires-3 Inv-loop μ-loop Inv-loop3 μ-loop3 Inv-loop2 μ-loop2
 row-at-requires-3 c κs = let t : Turn = search in let v = t .before .loop3 .inv in let g = t .loop3-test .taken in turn-step (v .0) (v .1 g .turns) g .row
 
-add-gap-inside : tie.Need-add-gap-inside Inv-loop μ-loop Inv-loop3 μ-loop3 Inv-loop2 μ-loop2
-add-gap-inside c = let t : Turn = search in let v = t .before .loop3 .inv in let g = t .loop3-test .taken in omega (arith, v .1 g .from, v .1 g .turns .right, walk-last (v .0))
-
 gap-inside-requires : tie.Need-gap-inside-requires Inv-loop μ-loop Inv-loop3 μ-loop3 Inv-loop2 μ-loop2
-gap-inside-requires c κs = let t : Turn = search in let v = t .before .loop3 .inv in let g = t .loop3-test .taken in inside-asks (v .1 g) g (turn-step (v .0) (v .1 g .turns) g .asks)
+gap-inside-requires c κs = let t : Turn = search in let v = t .before .loop3 .inv in let g = t .loop3-test .taken in inside-asks (right t) (v .1 g) g (turn-step (v .0) (v .1 g .turns) g .asks .0)
 
 up-requires-2 : tie.Need-up-requires-2 Inv-loop μ-loop Inv-loop3 μ-loop3 Inv-loop2 μ-loop2
 up-requires-2 c κs = let t : Turn = search in let v = t .before .loop3 .inv in let g = t .loop3-test .taken in turn-up (v .0) (v .1 g .turns) g
@@ -168,11 +194,8 @@ row-at-requires-4 c κs = let t : Turn = search in let v = t .before .loop3 .inv
 sub-gap-inside : tie.Need-sub-gap-inside Inv-loop μ-loop Inv-loop3 μ-loop3 Inv-loop2 μ-loop2
 sub-gap-inside c = let t : Turn = search in let v = t .before .loop3 .inv in let g = t .loop3-test .taken in turn-above (v .0) (v .1 g .turns) g .right
 
-add-gap-inside-2 : tie.Need-add-gap-inside-2 Inv-loop μ-loop Inv-loop3 μ-loop3 Inv-loop2 μ-loop2
-add-gap-inside-2 c = let t : Turn = search in let v = t .before .loop3 .inv in let g = t .loop3-test .taken in omega (arith, v .1 g .from, walk-last (v .0))
-
 gap-inside-requires-2 : tie.Need-gap-inside-requires-2 Inv-loop μ-loop Inv-loop3 μ-loop3 Inv-loop2 μ-loop2
-gap-inside-requires-2 c κs = let t : Turn = search in let v = t .before .loop3 .inv in let g = t .loop3-test .taken in inside-asks-above (v .1 g) g (turn-above (v .0) (v .1 g .turns) g .asks)
+gap-inside-requires-2 c κs = let t : Turn = search in let v = t .before .loop3 .inv in let g = t .loop3-test .taken in inside-asks-above (right t) (v .1 g) g (turn-above (v .0) (v .1 g .turns) g .asks .0)
 
 down-requires-2 : tie.Need-down-requires-2 Inv-loop μ-loop Inv-loop3 μ-loop3 Inv-loop2 μ-loop2
 down-requires-2 c κs =
@@ -194,9 +217,11 @@ loop3-again c =
     let u : tie.After-up2 Inv-loop μ-loop Inv-loop3 μ-loop3 Inv-loop2 μ-loop2 = search in
     let t : Turn = search in
     let v = t .before .loop3 .inv in
-    let g = t .loop3-test .taken in (
-      turn-more (v .0) (v .1 g .turns) g (u .before .before .before .row-at3 .ensures) (gap-read _ _ _ (u .before .gap-inside .ensures)) (u .up2 .ensures) (u .up2 .kept .0)
-          (d .before .before .before .row-at4 .ensures) (gap-read _ _ _ (d .before .gap-inside2 .ensures)) (d .down2 .ensures) (d .down2 .kept .0),
+    let g = t .loop3-test .taken in
+    let f = turn-step (v .0) (v .1 g .turns) g .asks .0 in
+    let b = right t in (
+      turn-more (v .0) (v .1 g .turns) g (u .before .before .row-at3 .ensures) (gap-read _ _ _ (gap-part b _ f (inside-asks b (v .1 g) g f .1) (u .before .gap-inside .ensures))) (u .up2 .ensures) (u .up2 .kept .0)
+          (d .before .before .before .row-at4 .ensures) (gap-read _ _ _ (gap-part b _ f (inside-asks-above b (v .1 g) g f .1) (d .before .gap-inside2 .ensures))) (d .down2 .ensures) (d .down2 .kept .0),
       λ _. inside-less (v .1 g) g (u .up2 .ensures) (d .down2 .ensures),
       omega (arith, v .2, meeting-less (v .1 g .turns) g (u .up2 .ensures) (d .down2 .ensures)),
     )
@@ -234,7 +259,13 @@ differ-spec =
     μ-loop2
     (λ c κs. search needs)
     gaps-to-requires
-    sub-t12
+    mul-part
+    mul-part-2
+    sub-part
+    part-part-start
+    part-part-end
+    sub-rows
+    sub-t14
     loop-holds
     behind-requires
     sub-row-at
@@ -257,13 +288,11 @@ differ-spec =
     loop2-again
     add-up
     row-at-requires-3
-    add-gap-inside
     gap-inside-requires
     up-requires-2
     sub-row-at-2
     row-at-requires-4
     sub-gap-inside
-    add-gap-inside-2
     gap-inside-requires-2
     down-requires-2
     sub-c

@@ -29,11 +29,10 @@ pub record Turns (c i j k u v t : ℕ) : Type 0 where
   pub right : j + 2 * c ≤ v
   pub room : k + 2 * c ≤ t
 
--- c turns fit, and the gaps that they look at, of m rows from lo on, lie between two rows
+-- c turns fit, and the gaps that they look at, of m rows from lo on, lie between two rows of those from lo on
 pub record Inside (m lo c i j k u v t : ℕ) : Type 0 where
   pub turns : Turns c i j k u v t
-  pub from : lo ≤ 1
-  pub behind : 0 < lo + j
+  pub behind : 0 < j
   pub before : lo + v ≤ m
 
 -- A step from below: what the two rows share is laid as row k, and a row that ends first is passed
