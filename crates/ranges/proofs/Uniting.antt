@@ -11,7 +11,7 @@ use Rattle.tables.specs.Inner.Unite.{Counted, Starts, Ends, Last, Adds, United}
 use Rattle.varint.proofs.Cases.{split}
 use Rattle.tables.proofs.Uniting.{adds, united-none, united-swap, united-rest, rest-left, rest-right}
 use Rattle.tables.proofs.Taking.{united-take}
-use Rattle.ranges.specs.Inner.{rowAt, Ruled, Picked}
+use Rattle.ranges.specs.Inner.{rowAt, Ruled, Picked, Going}
 use Rattle.ranges.proofs.Flat.{ruled-links}
 
 -- of row i of the one table and row j of the other, which start at p and q, the one that starts first is x .. y, and is taken
@@ -26,6 +26,9 @@ first-of c d l e f g = record { start = l; end = record { on = λ h. e .on h ∙
 
 pub first-moves : {ra rb : ℕ → Row} {i j p q x y i′ j′ : ℕ} → First ra rb i j p q x y i′ j′ → i′ + j′ ≡ i + j + 1
 first-moves {p = p} {q = q} f = ⊎-elim (λ h. omega (arith, f .one .off h, f .two .off h)) (λ h. omega (arith, f .one .on h, f .two .on h)) (split q p)
+
+pub first-few : {ra rb : ℕ → Row} {i j p q x y i′ j′ : ℕ} → First ra rb i j p q x y i′ j′ → (i′ ≤ i + 1) × (j′ ≤ j + 1)
+first-few {p = p} {q = q} f = ⊎-elim (λ h. (omega (arith, f .one .off h), omega (arith, f .two .off h))) (λ h. (omega (arith, f .one .on h), omega (arith, f .two .on h))) (split q p)
 
 pub counted-few : {k e x r : ℕ} → Counted k e x r → r ≤ k + 1
 counted-few {e = e} {x = x} q = ⊎-elim (λ h. omega (arith, q .off h)) (λ h. omega (arith, q .on h)) (split x e)
@@ -47,7 +50,7 @@ pub record Uniting (a : List ℕ) (n : ℕ) (b : List ℕ) (m most len : ℕ) (o
   pub same : length out ≡ len
   pub united : United 4294967296 (rowAt a) n i (rowAt b) m j most (rowAt out) k e
 
--- what `rest`, `turn` and `run` are given
+-- what `rest` and `turn` are given
 abbrev Given : List ℕ → ℕ → List ℕ → ℕ → ℕ → List ℕ → ℕ → ℕ → ℕ → ℕ → Type 0
 Given a n b m most out i j k e = Ruled a n × (Ruled b m × ((2 * most ≤ length out) × United 4294967296 (rowAt a) n i (rowAt b) m j most (rowAt out) k e))
 
@@ -119,39 +122,60 @@ module _ {a : List ℕ} {n : ℕ} {b : List ℕ} {m most : ℕ} where
     pub alone-more : {r f : ℕ} {out′ : List ℕ} → length out′ ≡ length out → Adds most (rowAt out) k e x y (rowAt out′) r → y < 4294967296 → f ≡ max e (y + 1) → Uniting a n b m most len out′ (i + 1) m r f
     alone-more l d o z = uniting-on v l (united-rest _ _ _ _ _ _ (λ _. refl) (λ _. refl) (ruled-links (v .one)) (ruled-links (v .two)) _ _ _ _ _ _ _ _ _ h s t (v .united) d o z)
 
--- ## A run
+-- ## Rows taken with the next starts at hand
 
--- c turns more surely fit, the last row put out ends at e, and p and q are the next starts
-pub record Running (a : List ℕ) (n : ℕ) (b : List ℕ) (m most len : ℕ) (out : List ℕ) (i j k e p q c : ℕ) : Type 0 where
-  pub on : Uniting a n b m most len out i j k (e + 1)
-  pub one : p ≡ rowAt a i .start
-  pub two : q ≡ rowAt b j .start
-  pub left : i + c < n
-  pub right : j + c < m
-  pub free : k + c ≤ most
+-- what `step`, `run` and `front` are given
+abbrev Ahead : List ℕ → ℕ → List ℕ → ℕ → ℕ → List ℕ → ℕ → ℕ → ℕ → ℕ → ℕ → ℕ → Type 0
+Ahead a n b m most out i j k e p q = Ruled a n × (Ruled b m × ((2 * most ≤ length out) × Going a n b m most out i j k e p q))
+
+-- the same of an output that had len elements
+pub record Along (a : List ℕ) (n : ℕ) (b : List ℕ) (m most len : ℕ) (out : List ℕ) (i j k e p q : ℕ) : Type 0 where
+  pub one : Ruled a n
+  pub two : Ruled b m
+  pub room : 2 * most ≤ len
+  pub same : length out ≡ len
+  pub going : Going a n b m most out i j k e p q
 
 module _ {a : List ℕ} {n : ℕ} {b : List ℕ} {m most : ℕ} where
-  pub running-from : {out : List ℕ} {i j k e f p q c : ℕ} → Given a n b m most out i j k e → e ≡ f + 1 → p ≡ rowAt a i .start → q ≡ rowAt b j .start → 0 < c → c ≤ n - i - 1 → c ≤ m - j - 1 → c ≤ most - k → Running a n b m most (length out) out i j k f p q c
-  running-from {out} {i} {j} {k} v h s t z l r f =
-      record { on = subst (λ (x : ℕ). Uniting a n b m most (length out) out i j k x) h (uniting-from v); one = s; two = t; left = omega arith; right = omega arith; free = omega arith }
+  pub along-from : {out : List ℕ} {i j k e p q : ℕ} → Ahead a n b m most out i j k e p q → Along a n b m most (length out) out i j k e p q
+  along-from h = record { one = h .0; two = h .1 .0; room = h .1 .1 .0; same = refl; going = h .1 .1 .1 }
 
-  module _ {len : ℕ} {out : List ℕ} {i j k e p q c : ℕ} (v : Running a n b m most len out i j k e p q c) (z : 0 < c) where
-    module _ {x y i′ j′ : ℕ} (w : First (rowAt a) (rowAt b) i j p q x y i′ j′) where
+  -- after a turn of `turn`
+  pub along-start : {out : List ℕ} {i j k e f p q : ℕ} → Uniting a n b m most (length out) out i j k e → e ≡ f + 1 → i < n → j < m → p ≡ rowAt a i .start → q ≡ rowAt b j .start → Ahead a n b m most out i j k f p q
+  along-start {out} {i} {j} {k} v h l r s t =
+      (v .one, (v .two, (v .room, record { united = subst (λ (x : ℕ). United 4294967296 (rowAt a) n i (rowAt b) m j most (rowAt out) k x) h (v .united); left = l; right = r; one = s; two = t })))
+
+  module _ {len : ℕ} {out : List ℕ} {i j k e p q : ℕ} (v : Along a n b m most len out i j k e p q) where
+    pub along-given : Ahead a n b m most out i j k e p q
+    along-given = (v .one, (v .two, (omega (arith, v .room, v .same), v .going)))
+
+    -- the output as it stands
+    pub along-anew : Along a n b m most (length out) out i j k e p q
+    along-anew = along-from along-given
+
+    -- further rows are taken
+    pub along-on : {out′ : List ℕ} {i′ j′ k′ e′ p′ q′ : ℕ} → length out′ ≡ length out → Going a n b m most out′ i′ j′ k′ e′ p′ q′ → Along a n b m most len out′ i′ j′ k′ e′ p′ q′
+    along-on l g = record { one = v .one; two = v .two; room = v .room; same = l ∙ v .same; going = g }
+
+    -- A ROW, where one is left behind it in both tables, and room
+    module _ {x y i′ j′ : ℕ} (l : i + 1 < n) (r : j + 1 < m) (f : k < most) (w : First (rowAt a) (rowAt b) i j p q x y i′ j′) where
+      on : Uniting a n b m most len out i j k (e + 1)
+      on = record { one = v .one; two = v .two; room = v .room; same = v .same; united = v .going .united }
+
       -- what `add` asks
-      pub running-asks : (2 * most ≤ length out) × (Last most (rowAt out) k (e + 1) × ((k ≤ 2 * rowLimit) × ((k < most) × (x < y))))
-      running-asks =
-          let u = uniting-asks (v .on) (first-filled (v .on) (omega (arith, v .left)) (omega (arith, v .right)) (v .one) (v .two) w) in
-          (u .0, (u .1 .0, (u .1 .1 .0, (omega (arith, v .free), u .1 .1 .1 .1))))
+      pub along-asks : (2 * most ≤ length out) × (Last most (rowAt out) k (e + 1) × ((k ≤ 2 * rowLimit) × ((k < most) × (x < y))))
+      along-asks =
+          let u = uniting-asks on (first-filled on (v .going .left) (v .going .right) (v .going .one) (v .going .two) w) in
+          (u .0, (u .1 .0, (u .1 .1 .0, (f, u .1 .1 .1 .1))))
 
-      -- A TURN
-      pub running-more : {u t r f p′ q′ : ℕ} {out′ : List ℕ} → length out′ ≡ length out → Adds most (rowAt out) k (e + 1) x y (rowAt out′) r → y < 4294967296 → f ≡ max e y
-          → u ≡ rowAt a (i + 1) .start → t ≡ rowAt b (j + 1) .start → Picked p q u p p′ → Picked p q q t q′ → Running a n b m most len out′ i′ j′ r f p′ q′ (c - 1)
-      running-more l d o g s t f h =
+      pub along-more : {u t z g p′ q′ : ℕ} {out′ : List ℕ} → length out′ ≡ length out → Adds most (rowAt out) k (e + 1) x y (rowAt out′) z → y < 4294967296 → g ≡ max e y
+          → u ≡ rowAt a (i + 1) .start → t ≡ rowAt b (j + 1) .start → Picked p q u p p′ → Picked p q q t q′ → Going a n b m most out′ i′ j′ z g p′ q′
+      along-more {g = g} {out′ = out′} c d o h s t a₂ b₂ =
+          let top : g + 1 ≡ max (e + 1) (y + 1) = omega arith in
           record {
-            on = first-more (v .on) (omega (arith, v .left)) (omega (arith, v .right)) (v .one) (v .two) w l d o (omega arith);
-            one = picked-of (λ (i : ℕ). rowAt a i .start) s (v .one) (w .one) f;
-            two = picked-of (λ (j : ℕ). rowAt b j .start) (v .two) t (w .two) h;
-            left = ⊎-elim (λ o. omega (arith, v .left, w .one .off o)) (λ o. omega (arith, v .left, w .one .on o)) (split q p);
-            right = ⊎-elim (λ o. omega (arith, v .right, w .two .off o)) (λ o. omega (arith, v .right, w .two .on o)) (split q p);
-            free = omega (arith, v .free, d .few);
+            united = first-more on (v .going .left) (v .going .right) (v .going .one) (v .going .two) w {out′ = out′} c d o top .united;
+            left = omega (arith, first-few w .0);
+            right = omega (arith, first-few w .1);
+            one = picked-of (λ (i : ℕ). rowAt a i .start) s (v .going .one) (w .one) a₂;
+            two = picked-of (λ (j : ℕ). rowAt b j .start) (v .going .two) t (w .two) b₂;
           }

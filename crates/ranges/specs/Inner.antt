@@ -6,6 +6,7 @@ use lib.ListN.{length, getD}
 use Rattle.tables.specs.Limits.{rowLimit}
 use Rattle.tables.specs.Inner.Rows as inner
 use Rattle.tables.specs.Inner.Rows.{span, Follows}
+use Rattle.tables.specs.Inner.Unite.{United}
 use Rattle.tables.specs.declared.Made.{Made}
 use Rattle.tables.specs.declared.Made.the-variants as made
 use Rattle.varint.specs.declared.Refusal.the-variants.{Full}
@@ -39,3 +40,11 @@ pub record Wrote (rs : inner.Rows) (len : ℕ) (out : List ℕ) (r : Made) : Typ
 pub record Picked (p x a b r : ℕ) : Type 0 where
   pub on : p ≤ x → r ≡ a
   pub off : x < p → r ≡ b
+
+-- the union has come to row i of the one table and row j of the other, which are left and start at p and q, and the last row put out ends at e
+pub record Going (a : List ℕ) (n : ℕ) (b : List ℕ) (m most : ℕ) (out : List ℕ) (i j k e p q : ℕ) : Type 0 where
+  pub united : United 4294967296 (rowAt a) n i (rowAt b) m j most (rowAt out) k (e + 1)
+  pub left : i < n
+  pub right : j < m
+  pub one : p ≡ rowAt a i .start
+  pub two : q ≡ rowAt b j .start

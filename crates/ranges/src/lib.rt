@@ -13,7 +13,7 @@ ghost use Rattle.tables.specs.Inner.Differ.{GapStart, GapEnd};
 ghost use Rattle.tables.specs.Inner.Ends.{Stores, Dropped, Raised, Turns, Inside, Below, Above, Halves, GapsFrom, GapsTo};
 ghost use Rattle.tables.specs.Inner.Edit.{range, Advanced, Parted, starts, ends, Starting, Ending, Moved, Stands};
 ghost use Rattle.ranges.specs.Tables.{most, Merged, Excluded, Intersected, Inserted, Removed, FromRanges, ContainsClock, FindStart, ClockStart, ClockEnd, Len, IsEmpty, Get};
-ghost use Rattle.ranges.specs.Inner.{rowAt, rowsOf, Ruled, Wrote, Picked};
+ghost use Rattle.ranges.specs.Inner.{rowAt, rowsOf, Ruled, Wrote, Picked, Going};
 
 // An index, or none, or why there is no answer.
 pub enum Place {
@@ -569,24 +569,6 @@ fn turn(a: &[u32], n: usize, b: &[u32], m: usize, out: &mut [u32], most: usize, 
     }
 }
 
-// How many turns surely fit: for all of them a row of either table is left, and one behind it, and room.
-fn fitting(n: usize, m: usize, most: usize, w: Taken) -> usize
-    ensures { λ r. ⌜ r ≤ n - w .i - 1 ⌝ }
-    ensures { λ r. ⌜ r ≤ m - w .j - 1 ⌝ }
-    ensures { λ r. ⌜ r ≤ most - w .k ⌝ }
-{
-    if n <= w.i {
-        return 0;
-    }
-    if m <= w.j {
-        return 0;
-    }
-    if most <= w.k {
-        return 0;
-    }
-    tables::lesser(tables::lesser(n - w.i - 1, m - w.j - 1), most - w.k)
-}
-
 // `join` where there is a last row, which ends at `e`, and room.
 fn add(out: &mut [u32], most: usize, k: usize, e: u32, x: u32, y: u32) -> usize
     requires { ⌜ 2 * most ≤ length (now out) ⌝ }
@@ -602,67 +584,185 @@ fn add(out: &mut [u32], most: usize, k: usize, e: u32, x: u32, y: u32) -> usize
     r
 }
 
-// As many turns as surely fit, with no test of the rows left nor of the room. The next starts are read before it is known which row is taken: so the loads wait for no comparison.
-fn run(a: &[u32], n: usize, b: &[u32], m: usize, out: &mut [u32], most: usize, w: Taken) -> Taken
-    requires { ⌜ 0 < w .e ⌝ }
+// How far the union has come where both tables have rows left, the next of which start at `p` and `q`, and rows are put out, the last of which ends at `e`.
+struct Ahead {
+    i: usize,
+    j: usize,
+    k: usize,
+    e: u32,
+    p: u32,
+    q: u32,
+}
+
+// How many rows can surely be taken: for all of them a row of either table is left, and one behind it, and room.
+fn fitting(n: usize, m: usize, most: usize, w: Ahead) -> usize
+    requires { ⌜ w .i < n ⌝ }
+    requires { ⌜ w .j < m ⌝ }
+    ensures { λ r. ⌜ w .i + r < n ⌝ }
+    ensures { λ r. ⌜ w .j + r < m ⌝ }
+    ensures { λ r. ⌜ (0 < r → w .k + r ≤ most) ⌝ }
+{
+    if most <= w.k {
+        return 0;
+    }
+    tables::lesser(tables::lesser(n - w.i - 1, m - w.j - 1), most - w.k)
+}
+
+// Whether one can.
+fn ready(n: usize, m: usize, most: usize, w: Ahead) -> bool
+    requires { ⌜ w .i < n ⌝ }
+    requires { ⌜ w .j < m ⌝ }
+    ensures { λ r. ⌜ Says ((w .i + 1 < n) × (w .j + 1 < m) × (w .k < most)) r ⌝ }
+{
+    if n <= w.i + 1 {
+        return false;
+    }
+    if m <= w.j + 1 {
+        return false;
+    }
+    w.k < most
+}
+
+// One row is taken, with no test. The next starts are read before it is known which row it is: so the loads wait for no comparison.
+fn step(a: &[u32], n: usize, b: &[u32], m: usize, out: &mut [u32], most: usize, w: Ahead) -> Ahead
+    requires { ⌜ w .i + 1 < n ⌝ }
+    requires { ⌜ w .j + 1 < m ⌝ }
+    requires { ⌜ w .k < most ⌝ }
     requires { ⌜ Ruled (now a) n ⌝ }
     requires { ⌜ Ruled (now b) m ⌝ }
     requires { ⌜ 2 * most ≤ length (now out) ⌝ }
-    requires { ⌜ United 4294967296 (rowAt (now a)) n (w .i) (rowAt (now b)) m (w .j) most (rowAt (now out)) (w .k) (w .e) ⌝ }
-    ensures { λ r. ⌜ United 4294967296 (rowAt (now (a .entry))) n (r .i) (rowAt (now (b .entry))) m (r .j) most (rowAt (now (out .exit))) (r .k) (r .e) ⌝ }
-    ensures { λ r. ⌜ w .i + w .j ≤ r .i + r .j ⌝ }
+    requires { ⌜ Going (now a) n (now b) m most (now out) (w .i) (w .j) (w .k) (w .e) (w .p) (w .q) ⌝ }
+    ensures { λ r. ⌜ Going (now (a .entry)) n (now (b .entry)) m most (now (out .exit)) (r .i) (r .j) (r .k) (r .e) (r .p) (r .q) ⌝ }
+    ensures { λ r. ⌜ r .i ≤ w .i + 1 ⌝ }
+    ensures { λ r. ⌜ r .j ≤ w .j + 1 ⌝ }
+    ensures { λ r. ⌜ r .k ≤ w .k + 1 ⌝ }
+    ensures { λ r. ⌜ r .i + r .j ≡ w .i + w .j + 1 ⌝ }
 {
-    let mut c = fitting(n, m, most, w);
-    if c == 0 {
-        return w;
-    }
-    let mut i = w.i;
-    let mut j = w.j;
-    let mut k = w.k;
-    let mut e = (w.e - 1) as u32;
-    let mut p = start_at(a, i);
-    let mut q = start_at(b, j);
-    while 0 < c {
-        let u = next_start(a, i);
-        let v = next_start(b, j);
-        let s = end_at(a, i);
-        let t = end_at(b, j);
-        let x = first(p, q, p, q);
-        let y = first(p, q, s, t);
-        i = index(p, q, i + 1, i);
-        j = index(p, q, j, j + 1);
-        k = add(out, most, k, e, x, y);
-        e = tables::higher(e, y);
-        let o = first(p, q, q, v);
-        p = first(p, q, u, p);
-        q = o;
-        c -= 1;
-    }
-    Taken {
+    let p = w.p;
+    let q = w.q;
+    let u = next_start(a, w.i);
+    let v = next_start(b, w.j);
+    let s = end_at(a, w.i);
+    let t = end_at(b, w.j);
+    let x = first(p, q, p, q);
+    let y = first(p, q, s, t);
+    let i = index(p, q, w.i + 1, w.i);
+    let j = index(p, q, w.j, w.j + 1);
+    let k = add(out, most, w.k, w.e, x, y);
+    let e = tables::higher(w.e, y);
+    let f = first(p, q, u, p);
+    let g = first(p, q, q, v);
+    Ahead {
         i: i,
         j: j,
         k: k,
-        e: e as u64 + 1,
+        e: e,
+        p: f,
+        q: g,
     }
 }
 
-// The rows of the union, as many as there is room for, and how many there are. A run takes about half of the rows that are left; one of less than five turns costs more than it saves, so the last rows are taken one by one.
+// `c` rows are taken, with no test of the rows left nor of the room.
+fn run(
+    a: &[u32],
+    n: usize,
+    b: &[u32],
+    m: usize,
+    out: &mut [u32],
+    most: usize,
+    w: Ahead,
+    c: usize,
+) -> Ahead
+    requires { ⌜ w .i + c < n ⌝ }
+    requires { ⌜ w .j + c < m ⌝ }
+    requires { ⌜ w .k + c ≤ most ⌝ }
+    requires { ⌜ Ruled (now a) n ⌝ }
+    requires { ⌜ Ruled (now b) m ⌝ }
+    requires { ⌜ 2 * most ≤ length (now out) ⌝ }
+    requires { ⌜ Going (now a) n (now b) m most (now out) (w .i) (w .j) (w .k) (w .e) (w .p) (w .q) ⌝ }
+    ensures { λ r. ⌜ Going (now (a .entry)) n (now (b .entry)) m most (now (out .exit)) (r .i) (r .j) (r .k) (r .e) (r .p) (r .q) ⌝ }
+    ensures { λ r. ⌜ r .i + r .j ≡ w .i + w .j + c ⌝ }
+{
+    let mut z = w;
+    let mut left = c;
+    while 0 < left {
+        z = step(a, n, b, m, out, most, z);
+        left -= 1;
+    }
+    z
+}
+
+// Rows are taken while both tables have two left, and there is room. A run takes about half of the rows that are left; where it would be short, a test a row costs less than to begin runs anew.
+fn front(a: &[u32], n: usize, b: &[u32], m: usize, out: &mut [u32], most: usize, w: Ahead) -> Ahead
+    requires { ⌜ Ruled (now a) n ⌝ }
+    requires { ⌜ Ruled (now b) m ⌝ }
+    requires { ⌜ 2 * most ≤ length (now out) ⌝ }
+    requires { ⌜ Going (now a) n (now b) m most (now out) (w .i) (w .j) (w .k) (w .e) (w .p) (w .q) ⌝ }
+    ensures { λ r. ⌜ Going (now (a .entry)) n (now (b .entry)) m most (now (out .exit)) (r .i) (r .j) (r .k) (r .e) (r .p) (r .q) ⌝ }
+{
+    let mut z = w;
+    let mut c = fitting(n, m, most, z);
+    while 16 < c {
+        z = run(a, n, b, m, out, most, z, c);
+        c = fitting(n, m, most, z);
+    }
+    while ready(n, m, most, z) {
+        z = step(a, n, b, m, out, most, z);
+    }
+    z
+}
+
+// The union up to the last row of either table, or as far as there is room.
+fn begin(a: &[u32], n: usize, b: &[u32], m: usize, out: &mut [u32], most: usize) -> Taken
+    requires { ⌜ Ruled (now a) n ⌝ }
+    requires { ⌜ Ruled (now b) m ⌝ }
+    requires { ⌜ 2 * most ≤ length (now out) ⌝ }
+    ensures { λ r. ⌜ United 4294967296 (rowAt (now (a .entry))) n (r .i) (rowAt (now (b .entry))) m (r .j) most (rowAt (now (out .exit))) (r .k) (r .e) ⌝ }
+{
+    let none = Taken {
+        i: 0,
+        j: 0,
+        k: 0,
+        e: 0,
+    };
+    if n == 0 {
+        return none;
+    }
+    if m == 0 {
+        return none;
+    }
+    let w = turn(a, n, b, m, out, most, none);
+    if n <= w.i {
+        return w;
+    }
+    if m <= w.j {
+        return w;
+    }
+    let z = Ahead {
+        i: w.i,
+        j: w.j,
+        k: w.k,
+        e: (w.e - 1) as u32,
+        p: start_at(a, w.i),
+        q: start_at(b, w.j),
+    };
+    let y = front(a, n, b, m, out, most, z);
+    Taken {
+        i: y.i,
+        j: y.j,
+        k: y.k,
+        e: y.e as u64 + 1,
+    }
+}
+
+// The rows of the union, as many as there is room for, and how many there are.
 fn unite(a: &[u32], n: usize, b: &[u32], m: usize, out: &mut [u32], most: usize) -> usize
     requires { ⌜ Ruled (now a) n ⌝ }
     requires { ⌜ Ruled (now b) m ⌝ }
     requires { ⌜ 2 * most ≤ length (now out) ⌝ }
     ensures { λ r. ⌜ Holds most (rowAt (now (out .exit))) r (combined union (rowsOf (now (a .entry)) n) (rowsOf (now (b .entry)) m)) ⌝ }
 {
-    let mut w = Taken {
-        i: 0,
-        j: 0,
-        k: 0,
-        e: 0,
-    };
-    while 4 < fitting(n, m, most, w) {
-        let z = turn(a, n, b, m, out, most, w);
-        w = run(a, n, b, m, out, most, z);
-    }
+    let mut w = begin(a, n, b, m, out, most);
     while w.i < n {
         if m <= w.j {
             return rest(a, n, w.i, b, m, out, most, w.k, w.e);
