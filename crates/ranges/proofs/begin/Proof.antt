@@ -41,7 +41,7 @@ front-requires c κs =
     let t : tie.After-turn = search in
     let s : tie.Start = search in
     along-start (uniting-anew (uniting-on (uniting-none {out = s .args .out .now} (s .pre .0) (s .pre .1 .0) (s .pre .1 .1)) {out′ = t .turn .last .1 .1 .1 .1 .0} (t .turn .kept .1 .1 .1 .1 .0) (t .turn .ensures .0)))
-        (omega (arith, t .turn .ensures .1 .1)) (omega (arith, d .if3 .left)) (omega (arith, e .if4 .left)) (q .before .start-at .ensures) (q .start-at2 .ensures)
+    (omega (arith, t .turn .ensures .1 .1)) (omega (arith, d .if3 .left)) (omega (arith, e .if4 .left)) (q .before .start-at .ensures) (q .start-at2 .ensures)
 
 same-length-3 : tie.Need-same-length-3
 same-length-3 c = let f : tie.After-front = search in let e : tie.Else4 = search in let t : tie.After-turn = search in f .front .kept .1 .1 .1 .1 .0 ∙ t .turn .kept .1 .1 .1 .1 .0
