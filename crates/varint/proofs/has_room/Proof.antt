@@ -10,7 +10,6 @@ has-room-spec =
     (λ c. search room)
     (λ c. search room)
     (λ c. search room)
-    (λ c. search room)
     (λ c κs. search room)
     (λ c. search room)
     (λ c. search room))
