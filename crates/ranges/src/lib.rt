@@ -608,7 +608,7 @@ fn fitting(n: usize, m: usize, most: usize, w: Ahead) -> usize
     tables::lesser(tables::lesser(n - w.i - 1, m - w.j - 1), most - w.k)
 }
 
-// Whether one can.
+// Whether one row can.
 fn ready(n: usize, m: usize, most: usize, w: Ahead) -> bool
     requires { ⌜ w .i < n ⌝ }
     requires { ⌜ w .j < m ⌝ }
@@ -979,7 +979,7 @@ fn gap_at(b: &[u32], m: usize, j: usize) -> Piece
     }
 }
 
-// The gap before row `j`, where a row stands before it and one behind it.
+// The gap before row `j`, where rows stand before it and behind it.
 fn gap_inside(b: &[u32], m: usize, j: usize) -> Piece
     requires { ⌜ 2 * m ≤ length (now b) ⌝ }
     requires { ⌜ 0 < j ⌝ }
@@ -1011,7 +1011,7 @@ fn behind(m: usize, lo: usize, w: Low, z: High) -> bool
     m < lo + z.v
 }
 
-// How many turns of both walks surely fit, where all gaps between them lie between two rows.
+// How many turns of both walks surely fit, where all gaps between them lie between two rows of those from `lo` on.
 fn turns_inside(m: usize, lo: usize, w: Low, z: High) -> usize
     requires { ⌜ lo ≤ 1 ⌝ }
     requires { ⌜ w .i ≤ z .u ⌝ }
@@ -1060,7 +1060,7 @@ fn gaps_to(b: &[u32], m: usize) -> usize
     m
 }
 
-// The rows of the difference: those of the intersection of `a` with the gaps of `b`. The gaps at either end go step by step, those inside in turns of both walks.
+// The rows of the difference: those of the intersection of `a` with the gaps of `b`. The gaps at either end go step by step, those inside in turns of both walks: they are read in the part from row `lo` on, so that nothing is added to an index.
 fn differ(a: &[u32], n: usize, b: &[u32], m: usize, out: &mut [u32], most: usize) -> usize
     requires { ⌜ Ruled (now a) n ⌝ }
     requires { ⌜ Ruled (now b) m ⌝ }

@@ -3,7 +3,6 @@ use mathlib.Core.Path.{_∙_}
 use Prim.Native.Nat.{_+_, _-_, _≤_, _<_}
 use native.Mathlib.Omega.{arith}
 use lib.ListN.{length}
-use borrow.Author.Needs.{needs}
 use Rattle.ranges.proofs.Uniting.{Along, along-from, along-given, along-anew, along-on}
 use Rattle.ranges.proofs.front.Statement.{statement}
 use Rattle.ranges.proofs.front.Tie as tie
