@@ -11,18 +11,8 @@ use Rattle.tables.specs.Inner.Unite.{Counted, Starts, Ends, Last, Adds, United}
 use Rattle.varint.proofs.Cases.{split}
 use Rattle.tables.proofs.Uniting.{adds, united-none, united-swap, united-rest, rest-left, rest-right}
 use Rattle.tables.proofs.Taking.{united-take}
-use Rattle.ranges.specs.Inner.{rowAt, Ruled, Picked, Going}
+use Rattle.ranges.specs.Inner.{rowAt, Ruled, Picked, First, Going}
 use Rattle.ranges.proofs.Flat.{ruled-links}
-
--- of row i of the one table and row j of the other, which start at p and q, the one that starts first is x .. y, and is taken
-pub record First (ra rb : ℕ → Row) (i j p q x y i′ j′ : ℕ) : Type 0 where
-  pub start : Picked p q p q x
-  pub end : Picked p q (ra i .end) (rb j .end) y
-  pub one : Picked p q (i + 1) i i′
-  pub two : Picked p q j (j + 1) j′
-
-pub first-of : {ra rb : ℕ → Row} {i j p q s t x y i′ j′ : ℕ} → s ≡ ra i .end → t ≡ rb j .end → Picked p q p q x → Picked p q s t y → Picked p q (i + 1) i i′ → Picked p q j (j + 1) j′ → First ra rb i j p q x y i′ j′
-first-of c d l e f g = record { start = l; end = record { on = λ h. e .on h ∙ c; off = λ h. e .off h ∙ d }; one = f; two = g }
 
 pub first-moves : {ra rb : ℕ → Row} {i j p q x y i′ j′ : ℕ} → First ra rb i j p q x y i′ j′ → i′ + j′ ≡ i + j + 1
 first-moves {p = p} {q = q} f = ⊎-elim (λ h. omega (arith, f .one .off h, f .two .off h)) (λ h. omega (arith, f .one .on h, f .two .on h)) (split q p)

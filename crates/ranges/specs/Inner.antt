@@ -41,6 +41,13 @@ pub record Picked (p x a b r : ℕ) : Type 0 where
   pub on : p ≤ x → r ≡ a
   pub off : x < p → r ≡ b
 
+-- of row i of the one table and row j of the other, which start at p and q, the one that starts first is x .. y, and is taken
+pub record First (ra rb : ℕ → inner.Row) (i j p q x y i′ j′ : ℕ) : Type 0 where
+  pub start : Picked p q p q x
+  pub end : Picked p q (ra i .end) (rb j .end) y
+  pub one : Picked p q (i + 1) i i′
+  pub two : Picked p q j (j + 1) j′
+
 -- the union has come to row i of the one table and row j of the other, which are left and start at p and q, and the last row put out ends at e
 pub record Going (a : List ℕ) (n : ℕ) (b : List ℕ) (m most : ℕ) (out : List ℕ) (i j k e p q : ℕ) : Type 0 where
   pub united : United 4294967296 (rowAt a) n i (rowAt b) m j most (rowAt out) k (e + 1)

@@ -13,7 +13,7 @@ ghost use Rattle.tables.specs.Inner.Differ.{GapStart, GapEnd};
 ghost use Rattle.tables.specs.Inner.Ends.{Stores, Dropped, Raised, Turns, Inside, Below, Above, Halves, GapsFrom, GapsTo};
 ghost use Rattle.tables.specs.Inner.Edit.{range, Advanced, Parted, starts, ends, Starting, Ending, Moved, Stands};
 ghost use Rattle.ranges.specs.Tables.{most, Merged, Excluded, Intersected, Inserted, Removed, FromRanges, ContainsClock, FindStart, ClockStart, ClockEnd, Len, IsEmpty, Get};
-ghost use Rattle.ranges.specs.Inner.{rowAt, rowsOf, Ruled, Wrote, Picked, Going};
+ghost use Rattle.ranges.specs.Inner.{rowAt, rowsOf, Ruled, Wrote, Picked, First, Going};
 
 // An index, or none, or why there is no answer.
 pub enum Place {
@@ -531,6 +531,30 @@ fn rest(
     k
 }
 
+// The row start, .., end - 1 that is taken, and where the next rows of the two tables stand then.
+struct Chosen {
+    start: u32,
+    end: u32,
+    i: usize,
+    j: usize,
+}
+
+// Of row `i` of the one table and row `j` of the other, which start at `p` and `q`, the one that starts first.
+fn choose(a: &[u32], i: usize, p: u32, b: &[u32], j: usize, q: u32) -> Chosen
+    requires { ⌜ 2 * i + 1 < length (now a) ⌝ }
+    requires { ⌜ 2 * j + 1 < length (now b) ⌝ }
+    ensures { λ r. ⌜ First (rowAt (now (a .entry))) (rowAt (now (b .entry))) i j p q (r .start) (r .end) (r .i) (r .j) ⌝ }
+{
+    let s = end_at(a, i);
+    let t = end_at(b, j);
+    Chosen {
+        start: first(p, q, p, q),
+        end: first(p, q, s, t),
+        i: index(p, q, i + 1, i),
+        j: index(p, q, j, j + 1),
+    }
+}
+
 // How far the union has come: `i` and `j` rows are taken, `k` rows are put out, and `e` is one more than the end of the last, 0 where there is none.
 struct Taken {
     i: usize,
@@ -551,21 +575,13 @@ fn turn(a: &[u32], n: usize, b: &[u32], m: usize, out: &mut [u32], most: usize, 
     ensures { λ r. ⌜ w .i + w .j < r .i + r .j ⌝ }
     ensures { λ r. ⌜ 0 < r .e ⌝ }
 {
-    let p = start_at(a, w.i);
-    let q = start_at(b, w.j);
-    let s = end_at(a, w.i);
-    let t = end_at(b, w.j);
-    let x = first(p, q, p, q);
-    let y = first(p, q, s, t);
-    let i = index(p, q, w.i + 1, w.i);
-    let j = index(p, q, w.j, w.j + 1);
-    let k = join(out, most, w.k, w.e, x, y);
-    let e = further(w.e, y);
+    let c = choose(a, w.i, start_at(a, w.i), b, w.j, start_at(b, w.j));
+    let k = join(out, most, w.k, w.e, c.start, c.end);
     Taken {
-        i: i,
-        j: j,
+        i: c.i,
+        j: c.j,
         k: k,
-        e: e,
+        e: further(w.e, c.end),
     }
 }
 
@@ -638,27 +654,17 @@ fn step(a: &[u32], n: usize, b: &[u32], m: usize, out: &mut [u32], most: usize, 
     ensures { λ r. ⌜ r .k ≤ w .k + 1 ⌝ }
     ensures { λ r. ⌜ r .i + r .j ≡ w .i + w .j + 1 ⌝ }
 {
-    let p = w.p;
-    let q = w.q;
     let u = next_start(a, w.i);
     let v = next_start(b, w.j);
-    let s = end_at(a, w.i);
-    let t = end_at(b, w.j);
-    let x = first(p, q, p, q);
-    let y = first(p, q, s, t);
-    let i = index(p, q, w.i + 1, w.i);
-    let j = index(p, q, w.j, w.j + 1);
-    let k = add(out, most, w.k, w.e, x, y);
-    let e = tables::higher(w.e, y);
-    let f = first(p, q, u, p);
-    let g = first(p, q, q, v);
+    let c = choose(a, w.i, w.p, b, w.j, w.q);
+    let k = add(out, most, w.k, w.e, c.start, c.end);
     Ahead {
-        i: i,
-        j: j,
+        i: c.i,
+        j: c.j,
         k: k,
-        e: e,
-        p: f,
-        q: g,
+        e: tables::higher(w.e, c.end),
+        p: first(w.p, w.q, u, w.p),
+        q: first(w.p, w.q, w.q, v),
     }
 }
 

@@ -1,33 +1,28 @@
--- The row that starts first is found, and added to the union so far. Assumes nothing.
+-- The row that starts first is added to the union so far. Assumes nothing.
 use native.Mathlib.Omega.{arith}
 use borrow.Author.Needs.{needs}
-use Rattle.ranges.proofs.Uniting.{first-of, first-moves, uniting-from, uniting-asks, first-filled, first-more}
+use Rattle.ranges.proofs.Uniting.{first-moves, uniting-from, uniting-asks, first-filled, first-more}
 use Rattle.ranges.proofs.turn.Statement.{statement}
 use Rattle.ranges.proofs.turn.Tie as tie
 
 join-requires : tie.Need-join-requires
 join-requires c κs =
-    let i : tie.After-index = search in
-    let f : tie.After-first2 = search in
-    let e : tie.After-end-at2 = search in
+    let w : tie.After-choose = search in
     let p : tie.After-start-at2 = search in
     let s : tie.Start = search in
     let v = uniting-from {out = s .args .out .now} (s .pre .1 .1) in
-    let w = first-of (e .before .end-at .ensures) (e .end-at2 .ensures) (f .before .first .ensures) (f .first2 .ensures) (i .index .ensures) (c .before .index2 .ensures) in
-    uniting-asks v (first-filled v (s .pre .0) (s .pre .1 .0) (p .before .start-at .ensures) (p .start-at2 .ensures) w)
+    uniting-asks v (first-filled v (s .pre .0) (s .pre .1 .0) (p .before .start-at .ensures) (p .start-at2 .ensures) (w .choose .ensures))
 
 returns : tie.Need-returns
 returns c =
     let j : tie.After-join = search in
-    let i : tie.After-index = search in
-    let f : tie.After-first2 = search in
-    let e : tie.After-end-at2 = search in
+    let w : tie.After-choose = search in
     let p : tie.After-start-at2 = search in
     let s : tie.Start = search in
     let v = uniting-from {out = s .args .out .now} (s .pre .1 .1) in
-    let w = first-of (e .before .end-at .ensures) (e .end-at2 .ensures) (f .before .first .ensures) (f .first2 .ensures) (i .index .ensures) (j .before .before .index2 .ensures) in (
-      first-more v (s .pre .0) (s .pre .1 .0) (p .before .start-at .ensures) (p .start-at2 .ensures) w {out′ = j .join .last .0} (j .join .kept .0) (j .join .ensures) (omega (arith, f .first2 .ok)) (c .further .ensures) .united,
-      (omega (arith, first-moves w), omega (arith, c .further .ensures)),
+    let f = w .choose .ensures in (
+      first-more v (s .pre .0) (s .pre .1 .0) (p .before .start-at .ensures) (p .start-at2 .ensures) f {out′ = j .join .last .0} (j .join .kept .0) (j .join .ensures) (omega (arith, w .choose .ok)) (c .further .ensures) .united,
+      (omega (arith, first-moves f), omega (arith, c .further .ensures)),
     )
 
 pub turn-spec : {M : Type 1} → statement M
@@ -36,13 +31,6 @@ turn-spec =
     (tie.spec
     (λ c κs. search needs)
     (λ c κs. search needs)
-    (λ c κs. search needs)
-    (λ c κs. search needs)
-    (λ c κs. search needs)
-    (λ c κs. search needs)
-    (λ c. search needs)
-    (λ c κs. search needs)
-    (λ c. search needs)
     (λ c κs. search needs)
     join-requires
     (λ c κs. search needs)
