@@ -28,15 +28,25 @@ row-part l j y h =
     (part-is l (2 * j) (2 * y + 1) (omega arith) ∙ ap (λ (n : ℕ). getD l n 0) (let z : 2 * j + (2 * y + 1) ≡ 2 * (j + y) + 1 = omega arith in z))
     refl
 
--- of m rows, m - j stand there
-pub part-rows : (l : List ℕ) (m j : ℕ) → 2 * m ≤ length l → 2 * (m - j) ≤ length (part l j)
-part-rows l m j h = omega (arith, length-take (length l - 2 * j) (drop (2 * j) l), length-drop (2 * j) l)
+-- the elements behind the start of row j
+abbrev pub inner-part : List ℕ → ℕ → List ℕ
+inner-part l j = midOf (2 * j + 1) (length l - (2 * j + 1)) l
 
--- a gap between two of them is one between two rows
-pub gap-part : (l : List ℕ) (lo : ℕ) {top m j s e : ℕ} → 2 * m ≤ length l → (0 < j) × (j < m - lo) → GapStart (rowAt (part l lo)) j s × GapEnd top (rowAt (part l lo)) (m - lo) j e → GapStart (rowAt l) (lo + j) s × GapEnd top (rowAt l) m (lo + j) e
-gap-part l lo {j = j} f h p = (
-  record { first = λ z. absurd (omega (arith, h .0)); next = λ _. p .0 .next (h .0) ∙ (ap (λ (r : Row). r .end) (row-part l lo (j - 1) (omega (arith, h .1))) ∙ ap (λ (i : ℕ). rowAt l i .end) (let z : lo + (j - 1) ≡ lo + j - 1 = omega (arith, h .0) in z)) },
-  record { inside = λ _. p .1 .inside (h .1) ∙ ap (λ (r : Row). r .start) (row-part l lo j (omega (arith, h .1))); last = λ z. absurd (omega (arith, h .1)) },
+pub inner-length : (l : List ℕ) (j : ℕ) → length (inner-part l j) ≡ length l - (2 * j + 1)
+inner-length l j = omega (arith, length-take (length l - (2 * j + 1)) (drop (2 * j + 1) l), length-drop (2 * j + 1) l)
+
+-- its rows are the gaps between two rows
+pub gap-row : (l : List ℕ) (lo x : ℕ) {top m : ℕ} → 2 * m ≤ length l → lo + (1 + x) < m
+    → GapStart (rowAt l) (lo + (1 + x)) (rowAt (inner-part l lo) x .start) × GapEnd top (rowAt l) m (lo + (1 + x)) (rowAt (inner-part l lo) x .end)
+gap-row l lo x f h = (
+  record {
+    first = λ z. absurd (omega arith);
+    next = λ _. part-is l (2 * lo + 1) (2 * x) (omega arith) ∙ ap (λ (n : ℕ). getD l n 0) (let z : 2 * lo + 1 + 2 * x ≡ 2 * (lo + (1 + x) - 1) + 1 = omega arith in z);
+  },
+  record {
+    inside = λ _. part-is l (2 * lo + 1) (2 * x + 1) (omega arith) ∙ ap (λ (n : ℕ). getD l n 0) (let z : 2 * lo + 1 + (2 * x + 1) ≡ 2 * (lo + (1 + x)) = omega arith in z);
+    last = λ z. absurd (omega arith);
+  },
 )
 
 -- ## The part is lent, and other elements stand there then

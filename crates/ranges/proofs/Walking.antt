@@ -1,5 +1,5 @@
 -- Two walks over a table and other rows, which are those of a table or its gaps: what holds at every turn, and what a turn asks. Assumes nothing.
-use mathlib.Core.Path.{_≡_, refl, _∙_}
+use mathlib.Core.Path.{_≡_, refl, sym, subst₂, _∙_}
 use mathlib.Core.Bool.{Bool, true, false}
 use mathlib.Core.List.{List}
 use Prim.Native.Nat.{ℕ, _+_, _-_, _*_, _≤_, _<_}
@@ -13,13 +13,16 @@ use Rattle.tables.specs.Inner.Rows as inner
 use Rattle.tables.specs.Inner.Rows.{combined, difference, intersection, span}
 use Rattle.tables.specs.Inner.Sweep.{Holds}
 use Rattle.tables.specs.Inner.Edit.{Plain}
-use Rattle.tables.specs.Inner.Ends.{Turns, Inside, Below, Above, Halves, GapsFrom, GapsTo}
+use Rattle.tables.specs.Inner.Ends.{Turns, Inside, Below, Above, Swept, Halves, GapsFrom, GapsTo}
 use Rattle.tables.proofs.Uniting.{holds-other}
-use Rattle.tables.proofs.Gaps.{gaps, gaps-plain, gaps-combined}
-use Rattle.tables.proofs.Meeting.{Meeting, meeting-none, meeting-turn, meeting-top, meeting-rest, meeting-halves, meeting-less, below-room, below-within, below-less, turns-less}
-use Rattle.ranges.specs.Inner.{rowAt, rowsOf, Ruled}
+use Rattle.tables.proofs.Gaps.{gaps, gaps-plain, gaps-combined, gap-read}
+use Rattle.tables.proofs.Meeting.{Meeting, meeting-none, meeting-top, meeting-rest, meeting-halves, below-few, below-within, below-less, above-few, above-lower, turns-less}
+use Rattle.tables.proofs.Turning.{Read, Alike, alike-all, swept-after}
+use Rattle.ranges.specs.declared.Low.{Low}
+use Rattle.ranges.specs.declared.High.{High}
+use Rattle.ranges.specs.Inner.{rowAt, rowsOf, Ruled, Fit}
 use Rattle.ranges.proofs.Editing.{ruled-plain}
-use Rattle.ranges.proofs.Parts.{part, part-rows}
+use Rattle.ranges.proofs.Parts.{inner-part, inner-length, gap-row}
 
 -- Asks j is what a look at row j of the other rows asks; the output had len elements
 pub record Walk (a : List ℕ) (n : ℕ) (rb : ℕ → inner.Row) (m : ℕ) (Asks : ℕ → Type 0) (most len : ℕ) (out : List ℕ) (i j k u v t : ℕ) : Type 0 where
@@ -47,10 +50,6 @@ pub record StepAbove (a : List ℕ) (Asks : ℕ → Type 0) (u v : ℕ) : Type 0
 abbrev pub Gap : List ℕ → ℕ → ℕ → ℕ → Type 0
 Gap b m lo j = (2 * m ≤ length b) × (lo + j ≤ m)
 
--- a row as it was read
-abbrev pub Read : (ℕ → inner.Row) → ℕ → ℕ → ℕ → Type 0
-Read row i s e = (s ≡ row i .start) × (e ≡ row i .end)
-
 module _ {a : List ℕ} {n : ℕ} {rb : ℕ → inner.Row} {m : ℕ} {Asks : ℕ → Type 0} {most : ℕ} where
   pub walk-none : {out : List ℕ} → Ruled a n → Plain rb m → m ≤ rowLimit + 1 → ((z : ℕ) → z < m → Asks z) → 2 * most ≤ length out → Walk a n rb m Asks most (length out) out 0 0 0 n m most
   walk-none p q f g r = record { one = p; two = q; few = f; asks = g; room = r; same = refl; met = meeting-none _ _ _ _ _ (ruled-plain p) q _ }
@@ -74,6 +73,12 @@ module _ {a : List ℕ} {n : ℕ} {rb : ℕ → inner.Row} {m : ℕ} {Asks : ℕ
 
     pub walk-halves : {on : Bool} → Says ((i < u) × (j < v)) on → on ≡ false → Halves most (rowAt out) k t (combined intersection (rowsOf a n) (span rb 0 m))
     walk-halves s e = meeting-halves _ _ _ _ _ (ruled-plain (w .one)) (w .two) (s .wrong e) (w .met)
+
+    -- after c turns
+    pub record Gone (c i′ j′ k′ u′ v′ t′ : ℕ) (out′ : List ℕ) : Type 0 where
+      pub walk : Walk a n rb m Asks most len out′ i′ j′ k′ u′ v′ t′
+      pub less : (u′ + v′) - (i′ + j′) + c ≤ (u + v) - (i + j)
+      pub order : (i′ ≤ u′) × ((j′ ≤ v′) × (k′ ≤ t′))
 
     step : (i < u) × (j < v) → Step a Asks out i j k t
     step h =
@@ -111,26 +116,36 @@ module _ {a : List ℕ} {n : ℕ} {rb : ℕ → inner.Row} {m : ℕ} {Asks : ℕ
           → Walk a n rb m Asks most len out′ i j k u′ v′ t′
       top-more x y b l = let h = s .right g in walk-to l (meeting-top _ _ _ _ _ (ruled-plain (w .one)) (w .two) (h .0, h .1, h .2) x y b (w .met))
 
-    -- ## A turn of both walks
+    -- ## Turns of both walks
 
-    module _ {c : ℕ} (s : Turns c i j k u v t) (g : 0 < c) where
-      pub turn-step : Step a Asks out i j k t
-      turn-step = step (omega (arith, s .left), omega (arith, s .right))
+    -- they fit, over rows that are read in a slice of lb elements
+    pub walk-fit : {lb c j₀ v₀ : ℕ} → 0 < c → Turns c i j₀ k u v₀ t → (2 * v₀ ≤ lb) × (v₀ ≤ rowLimit) → Fit (length a) lb (length out) c (record { i = i; j = j₀; k = k }) (record { u = u; v = v₀; t = t })
+    walk-fit g s r =
+        record {
+          turns = s;
+          left = (omega (arith, w .one .fits, w .met .one .within), omega (arith, w .one .few, w .met .one .within));
+          right = r;
+          room = (omega (arith, w .room, w .same, w .met .within), omega (arith, w .one .few, w .few, s .left, w .met .right, w .met .one .within, w .met .two .within, w .met .crossed .few));
+        }
 
-      -- a step from below is told of room for one row
-      pub turn-up : (2 * (k + 1) ≤ length out) × ((i ≤ rowLimit) × ((j ≤ rowLimit) × (k ≤ 2 * rowLimit)))
-      turn-up = (omega (arith, w .room, w .same, w .met .within, s .room), turn-step .up .1)
+    -- and over rows that are counted from d on
+    pub walk-swept : (out′ : List ℕ) (d : ℕ) {read : ℕ → inner.Row} {c j₀ v₀ i′ j₁ k′ u′ v₁ t′ : ℕ}
+        → Swept (rowAt a) read (record { laid = rowAt out; i = i; j = j₀; k = k; u = u; v = v₀; t = t }) c (record { laid = rowAt out′; i = i′; j = j₁; k = k′; u = u′; v = v₁; t = t′ })
+        → Alike rb d read j₀ v₀ → Turns c i j₀ k u v₀ t → (j ≡ d + j₀) × (v ≡ d + v₀) → length out′ ≡ length out → Gone c i′ (d + j₁) k′ u′ (d + v₁) t′ out′
+    walk-swept out′ d p same s e l =
+        let r = swept-after (rowAt a) n rb m most (ruled-plain (w .one)) (w .two) d _ 0 p same (record { left = omega (arith, s .left); right = omega (arith, s .right); room = omega (arith, s .room) })
+            (subst₂ (λ (x y : ℕ). Meeting (rowAt a) n i u rb m x y most (rowAt out) k t) (e .0) (e .1) (w .met)) in
+        record {
+          walk = walk-to l (r .met);
+          less = omega (arith, r .less, e .0, e .1, s .left, s .right);
+          order = (omega (arith, r .fits .left), (omega (arith, r .fits .right), omega (arith, r .fits .room)));
+        }
 
-      pub turn-above : StepAbove a Asks u v
-      turn-above = above (omega (arith, s .left), omega (arith, s .right))
-
-      pub turn-down : {l : ℕ} → l ≡ length out → (2 * t ≤ l) × ((0 < u) × ((0 < v) × (0 < t)))
-      turn-down e = (omega (arith, w .room, w .same, w .met .within), (omega (arith, s .left), (omega (arith, s .right), omega (arith, s .room))))
-
-      pub turn-more : {out₂ : List ℕ} {row′ : ℕ → inner.Row} {l i′ j′ k′ u′ v′ t′ p e q f p₂ e₂ q₂ f₂ : ℕ} → Read (rowAt a) i p e → Read rb j q f
-          → Below (k + 1) (rowAt out) i j k p e q f row′ i′ j′ k′ → l ≡ length out → Read (rowAt a) (u - 1) p₂ e₂ → Read rb (v - 1) q₂ f₂
-          → Above row′ u v t p₂ e₂ q₂ f₂ (rowAt out₂) u′ v′ t′ → length out₂ ≡ l → Walk a n rb m Asks most len out₂ i′ j′ k′ u′ v′ t′
-      turn-more x y b l x₂ y₂ d l₂ = walk-to (l₂ ∙ l) (meeting-turn _ _ _ _ _ (ruled-plain (w .one)) (w .two) s g x y (below-room (omega (arith, s .room)) b) x₂ y₂ d (w .met))
+    pub walk-swept-all : (out′ : List ℕ) {c i′ j′ k′ u′ v′ t′ : ℕ}
+        → Swept (rowAt a) rb (record { laid = rowAt out; i = i; j = j; k = k; u = u; v = v; t = t }) c (record { laid = rowAt out′; i = i′; j = j′; k = k′; u = u′; v = v′; t = t′ })
+        → Turns c i j k u v t → length out′ ≡ length out → Gone c i′ j′ k′ u′ v′ t′ out′
+    walk-swept-all out′ {c} {i′} {j′} {k′} {u′} {v′} {t′} p s l =
+        subst₂ (λ (x y : ℕ). Gone c i′ x k′ u′ y t′ out′) (let q : 0 + j′ ≡ j′ = omega arith in q) (let q : 0 + v′ ≡ v′ = omega arith in q) (walk-swept out′ 0 p (alike-all rb) s (omega arith, omega arith) l)
 
     -- ## And of the one from below alone
 
@@ -142,14 +157,36 @@ module _ {a : List ℕ} {n : ℕ} {rb : ℕ → inner.Row} {m : ℕ} {Asks : ℕ
           → Below t (rowAt out) i j k p e q f (rowAt out′) i′ j′ k′ → length out′ ≡ length out → Walk a n rb m Asks most len out′ i′ j′ k′ u v t
       rest-more x y b l = walk-to l (meeting-rest _ _ _ _ _ (ruled-plain (w .one)) (w .two) (s .right g) x y b (w .met))
 
-module _ {c i j k u v t p e q f i′ j′ k′ p₂ e₂ q₂ f₂ u′ v′ t′ : ℕ} {row row′ row₂ : ℕ → inner.Row} (s : Turns c i j k u v t) (g : 0 < c)
-    (b : Below (k + 1) row i j k p e q f row′ i′ j′ k′) (d : Above row′ u v t p₂ e₂ q₂ f₂ row₂ u′ v′ t′) where
-  -- what `turns_left` asks
-  pub turn-left : (0 < c) × Turns (c - 1) i′ j′ k′ u′ v′ t′
-  turn-left = (g, turns-less s g b d)
+-- ## A turn asks for what fits
 
-  pub turn-less : (u′ + v′) - (i′ + j′) < (u + v) - (i + j)
-  turn-less = meeting-less s g b d
+module _ {la lb len c : ℕ} {w : Low} {z : High} (f : Fit la lb len c w z) (g : 0 < c) where
+  pub fit-rows : (2 * w .i + 1 < la) × (2 * w .j + 1 < lb)
+  fit-rows = (omega (arith, f .turns .left, f .left .0), omega (arith, f .turns .right, f .right .0))
+
+  -- a step from below is told of room for one row
+  pub fit-up : (2 * (w .k + 1) ≤ len) × ((w .i ≤ rowLimit) × ((w .j ≤ rowLimit) × (w .k ≤ 2 * rowLimit)))
+  fit-up = (omega (arith, f .turns .room, f .room .0), (omega (arith, f .turns .left, f .left .1), (omega (arith, f .turns .right, f .right .1), omega (arith, f .room .1))))
+
+  pub fit-last : (1 ≤ z .u) × (1 ≤ z .v)
+  fit-last = (omega (arith, f .turns .left), omega (arith, f .turns .right))
+
+  pub fit-rows-above : (2 * (z .u - 1) + 1 < la) × (2 * (z .v - 1) + 1 < lb)
+  fit-rows-above = (omega (arith, f .turns .left, f .left .0), omega (arith, f .turns .right, f .right .0))
+
+  pub fit-down : {l : ℕ} → l ≡ len → (2 * z .t ≤ l) × ((0 < z .u) × ((0 < z .v) × (0 < z .t)))
+  fit-down e = (omega (arith, f .room .0), (omega (arith, f .turns .left), (omega (arith, f .turns .right), omega (arith, f .turns .room))))
+
+  -- and one less fits then
+  pub fit-less : {room p e q h p₂ e₂ q₂ h₂ : ℕ} {row row′ row₂ : ℕ → inner.Row} {w′ : Low} {z′ : High} {len′ : ℕ} → len′ ≡ len
+      → Below room row (w .i) (w .j) (w .k) p e q h row′ (w′ .i) (w′ .j) (w′ .k) → Above row′ (z .u) (z .v) (z .t) p₂ e₂ q₂ h₂ row₂ (z′ .u) (z′ .v) (z′ .t) → Fit la lb len′ (c - 1) w′ z′
+  fit-less l b d =
+      let m = above-few d in
+      record {
+        turns = turns-less (f .turns) g b d;
+        left = (omega (arith, m .0, f .left .0), omega (arith, m .0, f .left .1));
+        right = (omega (arith, m .2, f .right .0), omega (arith, m .2, f .right .1));
+        room = (omega (arith, above-lower d, f .room .0, l), omega (arith, below-few b .2, f .room .1));
+      }
 
 module _ {i j k u v room p e q f i′ j′ k′ : ℕ} {on : Bool} {row row′ : ℕ → inner.Row} (s : Says ((i < u) × (j < v)) on) (g : on ≡ true) (b : Below room row i j k p e q f row′ i′ j′ k′) where
   pub rest-within : (i′ ≤ u) × (j′ ≤ v)
@@ -160,16 +197,23 @@ module _ {i j k u v room p e q f i′ j′ k′ : ℕ} {on : Bool} {row row′ :
 
 -- ## The gaps of a table
 
--- what a look at a gap between two rows asks, from below and from above: it is read in the part from row lo on
-module _ (b : List ℕ) {m lo c i j k u v t : ℕ} (s : Inside m lo c i j k u v t) (g : 0 < c) (f : 2 * m ≤ length b) where
-  abbrev asks : ℕ → Type 0
-  asks z = (2 * (m - lo) ≤ length (part b lo)) × ((0 < z) × (z < m - lo))
+-- turns over the gaps between two rows: these are the rows of the part that begins one element further on, the first of which is gap 1
+module _ {m lo c i j k u v t : ℕ} (s : Inside m lo c i j k u v t) where
+  pub inside-first : (j ≡ 1 + (j - 1)) × (v ≡ 1 + (v - 1))
+  inside-first = (omega (arith, s .behind), omega (arith, s .behind, s .turns .right))
 
-  pub inside-asks : asks j
-  inside-asks = (part-rows b m lo f, (s .behind, omega (arith, s .before, s .turns .right)))
+  pub inside-turns : Turns c i (j - 1) k u (v - 1) t
+  inside-turns = record { left = s .turns .left; right = omega (arith, s .behind, s .turns .right); room = s .turns .room }
 
-  pub inside-asks-above : asks (v - 1)
-  inside-asks-above = (part-rows b m lo f, (omega (arith, s .turns .right, s .behind), omega (arith, s .before, s .turns .right)))
+  module _ (b : List ℕ) (f : 2 * m ≤ length b) where
+    pub inside-starts : 2 * lo + 1 ≤ length b
+    inside-starts = omega (arith, s .before, s .behind, s .turns .right)
+
+    pub inside-fits : m ≤ rowLimit → (2 * (v - 1) ≤ length (inner-part b lo)) × (v - 1 ≤ rowLimit)
+    inside-fits h = (omega (arith, s .before, inner-length b lo), omega (arith, s .before))
+
+    pub inside-alike : Alike (gaps 4294967295 (rowAt b) m lo) 1 (rowAt (inner-part b lo)) (j - 1) (v - 1)
+    inside-alike x _ l = gap-read 4294967295 (rowAt b) m (gap-row b lo x f (omega (arith, s .before)))
 
 module _ {a : List ℕ} {n : ℕ} {b : List ℕ} {m lo hi : ℕ} (p : Ruled a n) (q : Ruled b m) (f : GapsFrom (rowAt b) m lo) (g : GapsTo 4294967295 (rowAt b) m hi) where
   pub walk-gaps : {most : ℕ} {out : List ℕ} → 2 * most ≤ length out → Walk a n (gaps 4294967295 (rowAt b) m lo) (hi - lo) (Gap b m lo) most (length out) out 0 0 0 n (hi - lo) most

@@ -7,9 +7,12 @@ use Rattle.tables.specs.Limits.{rowLimit}
 use Rattle.tables.specs.Inner.Rows as inner
 use Rattle.tables.specs.Inner.Rows.{span, Follows}
 use Rattle.tables.specs.Inner.Unite.{United}
+use Rattle.tables.specs.Inner.Ends.{Turns, Places}
 use Rattle.tables.specs.declared.Made.{Made}
 use Rattle.tables.specs.declared.Made.the-variants as made
 use Rattle.varint.specs.declared.Refusal.the-variants.{Full}
+use Rattle.ranges.specs.declared.Low.{Low}
+use Rattle.ranges.specs.declared.High.{High}
 use Rattle.ranges.specs.Rows.{Row, row}
 use Rattle.ranges.specs.Tables.{most, filled}
 
@@ -55,3 +58,14 @@ pub record Going (a : List ℕ) (n : ℕ) (b : List ℕ) (m most : ℕ) (out : L
   pub right : j < m
   pub one : p ≡ rowAt a i .start
   pub two : q ≡ rowAt b j .start
+
+-- where two walks stand that lay rows in out
+abbrev pub places : List ℕ → Low → High → Places
+places out w z = record { laid = rowAt out; i = w .i; j = w .j; k = w .k; u = z .u; v = z .v; t = z .t }
+
+-- c turns of two walks fit in slices of these lengths
+pub record Fit (la lb len c : ℕ) (w : Low) (z : High) : Type 0 where
+  pub turns : Turns c (w .i) (w .j) (w .k) (z .u) (z .v) (z .t)
+  pub left : (2 * z .u ≤ la) × (z .u ≤ rowLimit)
+  pub right : (2 * z .v ≤ lb) × (z .v ≤ rowLimit)
+  pub room : (2 * z .t ≤ len) × (w .k + c ≤ 2 * rowLimit)

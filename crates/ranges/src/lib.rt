@@ -10,10 +10,10 @@ ghost use Rattle.tables.specs.Inner.Sweep.{Holds};
 ghost use Rattle.tables.specs.Inner.Unite.{Passed, Counted, Starts, Ends, Last, Adds, United};
 ghost use Rattle.tables.specs.Inner.Cross.{Keeps};
 ghost use Rattle.tables.specs.Inner.Differ.{GapStart, GapEnd};
-ghost use Rattle.tables.specs.Inner.Ends.{Stores, Dropped, Raised, Turns, Inside, Below, Above, Halves, GapsFrom, GapsTo};
+ghost use Rattle.tables.specs.Inner.Ends.{Stores, Dropped, Raised, Turns, Inside, Below, Above, Swept, Halves, GapsFrom, GapsTo};
 ghost use Rattle.tables.specs.Inner.Edit.{range, Advanced, Parted, starts, ends, Starting, Ending, Moved, Stands};
 ghost use Rattle.ranges.specs.Tables.{most, Merged, Excluded, Intersected, Inserted, Removed, FromRanges, ContainsClock, FindStart, ClockStart, ClockEnd, Len, IsEmpty, Get};
-ghost use Rattle.ranges.specs.Inner.{rowAt, rowsOf, Ruled, Wrote, Picked, First, Going};
+ghost use Rattle.ranges.specs.Inner.{rowAt, rowsOf, Ruled, Wrote, Picked, First, Going, places, Fit};
 
 // An index, or none, or why there is no answer.
 pub enum Place {
@@ -897,6 +897,28 @@ fn down(out: &mut [u32], z: High, p: Piece, q: Piece) -> High
     High { u: u, v: v, t: t }
 }
 
+// Where both walks stand.
+struct Walks {
+    low: Low,
+    high: High,
+}
+
+// `c` turns of both walks, with no test: a step from below and a step from above each. The rows of `b` are those of a table, or its gaps.
+fn sweep(a: &[u32], b: &[u32], out: &mut [u32], c: usize, from: Low, to: High) -> Walks
+    requires { ⌜ Fit (length (now a)) (length (now b)) (length (now out)) c from to ⌝ }
+    ensures { λ r. ⌜ Swept (rowAt (now (a .entry))) (rowAt (now (b .entry))) (places (now (out .entry)) from to) c (places (now (out .exit)) (r .low) (r .high)) ⌝ }
+{
+    let mut w = from;
+    let mut z = to;
+    let mut left = c;
+    while 0 < left {
+        w = up(out, w.k + 1, w, row_at(a, w.i), row_at(b, w.j));
+        z = down(out, z, row_at(a, z.u - 1), row_at(b, z.v - 1));
+        left -= 1;
+    }
+    Walks { low: w, high: z }
+}
+
 // How many turns of both walks surely fit: a turn takes a row of each table from below and one from above at most, and room for as many.
 fn turns(w: Low, z: High) -> usize
     requires { ⌜ w .i ≤ z .u ⌝ }
@@ -908,18 +930,6 @@ fn turns(w: Low, z: High) -> usize
         tables::lesser((z.u - w.i) / 2, (z.v - w.j) / 2),
         (z.t - w.k) / 2,
     )
-}
-
-// How many after a turn of `c`: one less, and reckoned anew where none is left. So a turn has one test.
-fn turns_left(c: usize, w: Low, z: High) -> usize
-    requires { ⌜ 0 < c ⌝ }
-    requires { ⌜ Turns (c - 1) (w .i) (w .j) (w .k) (z .u) (z .v) (z .t) ⌝ }
-    ensures { λ r. ⌜ Turns r (w .i) (w .j) (w .k) (z .u) (z .v) (z .t) ⌝ }
-{
-    if 1 < c {
-        return c - 1;
-    }
-    turns(w, z)
 }
 
 // Whether rows of both tables are left between the walks.
@@ -982,20 +992,6 @@ fn gap_at(b: &[u32], m: usize, j: usize) -> Piece
     Piece {
         start: gap_start(b, j),
         end: gap_end(b, m, j),
-    }
-}
-
-// The gap before row `j`, where rows stand before it and behind it.
-fn gap_inside(b: &[u32], m: usize, j: usize) -> Piece
-    requires { ⌜ 2 * m ≤ length (now b) ⌝ }
-    requires { ⌜ 0 < j ⌝ }
-    requires { ⌜ j < m ⌝ }
-    ensures { λ r. ⌜ GapStart (rowAt (now (b .entry))) j (r .start) ⌝ }
-    ensures { λ r. ⌜ GapEnd 4294967295 (rowAt (now (b .entry))) m j (r .end) ⌝ }
-{
-    Piece {
-        start: b[2 * j - 1],
-        end: b[2 * j],
     }
 }
 
@@ -1066,7 +1062,7 @@ fn gaps_to(b: &[u32], m: usize) -> usize
     m
 }
 
-// The rows of the difference: those of the intersection of `a` with the gaps of `b`. The gaps at either end go step by step, those inside in turns of both walks: they are read in the part from row `lo` on, so that nothing is added to an index.
+// The rows of the difference: those of the intersection of `a` with the gaps of `b`. The gaps at either end go step by step, those inside in turns of both walks: they are the rows of the part that begins one element further on.
 fn differ(a: &[u32], n: usize, b: &[u32], m: usize, out: &mut [u32], most: usize) -> usize
     requires { ⌜ Ruled (now a) n ⌝ }
     requires { ⌜ Ruled (now b) m ⌝ }
@@ -1075,8 +1071,6 @@ fn differ(a: &[u32], n: usize, b: &[u32], m: usize, out: &mut [u32], most: usize
 {
     let lo = gaps_from(b, m);
     let hi = gaps_to(b, m);
-    let part = &b[2 * lo..];
-    let rows = m - lo;
     let mut w = Low { i: 0, j: 0, k: 0 };
     let mut z = High {
         u: n,
@@ -1088,11 +1082,29 @@ fn differ(a: &[u32], n: usize, b: &[u32], m: usize, out: &mut [u32], most: usize
     }
     while between(w, z) {
         w = up(out, z.t, w, row_at(a, w.i), gap_at(b, m, lo + w.j));
-        let mut c = turns_inside(m, lo, w, z);
-        while 0 < c {
-            w = up(out, w.k + 1, w, row_at(a, w.i), gap_inside(part, rows, w.j));
-            z = down(out, z, row_at(a, z.u - 1), gap_inside(part, rows, z.v - 1));
-            c -= 1;
+        let c = turns_inside(m, lo, w, z);
+        if 0 < c {
+            let from = Low {
+                i: w.i,
+                j: w.j - 1,
+                k: w.k,
+            };
+            let to = High {
+                u: z.u,
+                v: z.v - 1,
+                t: z.t,
+            };
+            let r = sweep(a, &b[2 * lo + 1..], out, c, from, to);
+            w = Low {
+                i: r.low.i,
+                j: 1 + r.low.j,
+                k: r.low.k,
+            };
+            z = High {
+                u: r.high.u,
+                v: 1 + r.high.v,
+                t: r.high.t,
+            };
         }
     }
     settle(out, most, w.k, z.t)
@@ -1126,9 +1138,10 @@ fn cross(a: &[u32], n: usize, b: &[u32], m: usize, out: &mut [u32], most: usize)
     };
     let mut c = turns(w, z);
     while 0 < c {
-        w = up(out, w.k + 1, w, row_at(a, w.i), row_at(b, w.j));
-        z = down(out, z, row_at(a, z.u - 1), row_at(b, z.v - 1));
-        c = turns_left(c, w, z);
+        let r = sweep(a, b, out, c, w, z);
+        w = r.low;
+        z = r.high;
+        c = turns(w, z);
     }
     while between(w, z) {
         w = up(out, z.t, w, row_at(a, w.i), row_at(b, w.j));

@@ -50,18 +50,18 @@ step-above {u} {v} {t} {p} {e} {q} {f} {u′} {v′} {t′} {row = row} {row′ 
     }
 
 -- with rows as they were read
-below-read : {room i j k p e q f p₁ e₁ q₁ f₁ i′ j′ k′ : ℕ} {row row′ : ℕ → Row} → (p ≡ p₁) × (e ≡ e₁) → (q ≡ q₁) × (f ≡ f₁)
+pub below-read : {room i j k p e q f p₁ e₁ q₁ f₁ i′ j′ k′ : ℕ} {row row′ : ℕ → Row} → (p ≡ p₁) × (e ≡ e₁) → (q ≡ q₁) × (f ≡ f₁)
     → Below room row i j k p e q f row′ i′ j′ k′ → Below room row i j k p₁ e₁ q₁ f₁ row′ i′ j′ k′
 below-read {room} {i} {j} {k} {p} {e} {q} {f} {p₁} {e₁} {q₁} {f₁} {i′} {j′} {k′} {row} {row′} a b s =
     subst₂ (λ (v w : ℕ). Below room row i j k p₁ e₁ v w row′ i′ j′ k′) (b .0) (b .1) (subst₂ (λ (v w : ℕ). Below room row i j k v w q f row′ i′ j′ k′) (a .0) (a .1) s)
 
-above-read : {u v t p e q f p₁ e₁ q₁ f₁ u′ v′ t′ : ℕ} {row row′ : ℕ → Row} → (p ≡ p₁) × (e ≡ e₁) → (q ≡ q₁) × (f ≡ f₁)
+pub above-read : {u v t p e q f p₁ e₁ q₁ f₁ u′ v′ t′ : ℕ} {row row′ : ℕ → Row} → (p ≡ p₁) × (e ≡ e₁) → (q ≡ q₁) × (f ≡ f₁)
     → Above row u v t p e q f row′ u′ v′ t′ → Above row u v t p₁ e₁ q₁ f₁ row′ u′ v′ t′
 above-read {u} {v} {t} {p} {e} {q} {f} {p₁} {e₁} {q₁} {f₁} {u′} {v′} {t′} {row} {row′} a b s =
     subst₂ (λ (w z : ℕ). Above row u v t p₁ e₁ w z row′ u′ v′ t′) (b .0) (b .1) (subst₂ (λ (w z : ℕ). Above row u v t w z q f row′ u′ v′ t′) (a .0) (a .1) s)
 
 -- a step goes on by a row at most, and by one at least
-below-few : {room i j k p e q f i′ j′ k′ : ℕ} {row row′ : ℕ → Row} → Below room row i j k p e q f row′ i′ j′ k′ → (i′ ≤ i + 1) × (j′ ≤ j + 1) × (k′ ≤ k + 1)
+pub below-few : {room i j k p e q f i′ j′ k′ : ℕ} {row row′ : ℕ → Row} → Below room row i j k p e q f row′ i′ j′ k′ → (i′ ≤ i + 1) × (j′ ≤ j + 1) × (k′ ≤ k + 1)
 below-few {p = p} {e = e} {q = q} {f = f} s = (
   ⊎-elim (λ l. omega (arith, s .one .off l)) (λ l. omega (arith, s .one .on l)) (split (min e f) e),
   ⊎-elim (λ l. omega (arith, s .two .off l)) (λ l. omega (arith, s .two .on l)) (split (min e f) f),
@@ -88,7 +88,7 @@ pub below-less : {room i j k p e q f i′ j′ k′ u v : ℕ} {row row′ : ℕ
 below-less h s = omega (arith, h .0, h .1, below-on s)
 
 -- a step from above passes a row of either table at most
-above-few : {u v t p e q f u′ v′ t′ : ℕ} {row row′ : ℕ → Row} → Above row u v t p e q f row′ u′ v′ t′ → (u′ ≤ u) × (u ≤ u′ + 1) × (v′ ≤ v) × (v ≤ v′ + 1) × (t ≤ t′ + 1)
+pub above-few : {u v t p e q f u′ v′ t′ : ℕ} {row row′ : ℕ → Row} → Above row u v t p e q f row′ u′ v′ t′ → (u′ ≤ u) × (u ≤ u′ + 1) × (v′ ≤ v) × (v ≤ v′ + 1) × (t ≤ t′ + 1)
 above-few {p = p} {e = e} {q = q} {f = f} s = (
   ⊎-elim (λ l. omega (arith, s .one .off l)) (λ l. omega (arith, s .one .on l)) (split p (max p q)),
   ⊎-elim (λ l. omega (arith, s .one .off l)) (λ l. omega (arith, s .one .on l)) (split p (max p q)),
@@ -96,6 +96,9 @@ above-few {p = p} {e = e} {q = q} {f = f} s = (
   ⊎-elim (λ l. omega (arith, s .two .off l)) (λ l. omega (arith, s .two .on l)) (split q (max p q)),
   ⊎-elim (λ l. omega (arith, s .raised .new l)) (λ l. omega (arith, s .raised .old l)) (split (max p q) (min e f)),
 )
+
+pub above-lower : {u v t p e q f u′ v′ t′ : ℕ} {row row′ : ℕ → Row} → Above row u v t p e q f row′ u′ v′ t′ → t′ ≤ t
+above-lower {p = p} {e = e} {q = q} {f = f} s = ⊎-elim (λ l. omega (arith, s .raised .new l)) (λ l. omega (arith, s .raised .old l)) (split (max p q) (min e f))
 
 -- and one at least
 pub above-less : {u v t p e q f u′ v′ t′ : ℕ} {row row′ : ℕ → Row} → 0 < u → 0 < v → Above row u v t p e q f row′ u′ v′ t′ → u′ + v′ < u + v

@@ -1,4 +1,4 @@
--- Both walks go on by turns that surely fit, and then the one from below alone. Assumes nothing.
+-- Both walks go on by as many turns as surely fit, again and again, and then the one from below alone. Assumes nothing.
 use mathlib.Core.Path.{_∙_}
 use Prim.Native.Nat.{ℕ, _+_, _-_, _*_, _<_}
 use native.Mathlib.Omega.{arith}
@@ -6,7 +6,7 @@ use lib.ListN.{length}
 use Rattle.tables.specs.Inner.Ends.{Turns}
 use Rattle.ranges.specs.Inner.{rowAt}
 use Rattle.ranges.proofs.Editing.{ruled-plain}
-use Rattle.ranges.proofs.Walking.{Walk, walk-none, walk-on, walk-settle, walk-halves, turn-step, turn-up, turn-above, turn-down, turn-more, turn-left, turn-less, rest-step, rest-more, rest-less}
+use Rattle.ranges.proofs.Walking.{Walk, walk-none, walk-on, walk-settle, walk-halves, walk-fit, walk-swept-all, rest-step, rest-more, rest-less}
 use borrow.Author.Needs.{needs}
 use Rattle.ranges.proofs.cross.Statement.{statement}
 use Rattle.ranges.proofs.cross.Tie as tie
@@ -35,83 +35,58 @@ loop-holds c =
     let s : tie.Start Inv-loop μ-loop Inv-loop2 μ-loop2 = search in
     (walk-none (s .pre .0) (ruled-plain (s .pre .1 .0)) (omega (arith, s .pre .1 .0 .few)) (λ j h. omega (arith, s .pre .1 .0 .fits)) (s .pre .1 .1), c .turns .ensures)
 
-add-up : tie.Need-add-up Inv-loop μ-loop Inv-loop2 μ-loop2
-add-up c = let t : Turn = search in omega (arith, turn-up (t .before .loop .inv .0) (t .before .loop .inv .1) (t .loop-test .taken))
-
-row-at-requires : tie.Need-row-at-requires Inv-loop μ-loop Inv-loop2 μ-loop2
-row-at-requires c κs = let t : Turn = search in turn-step (t .before .loop .inv .0) (t .before .loop .inv .1) (t .loop-test .taken) .row
-
-row-at-requires-2 : tie.Need-row-at-requires-2 Inv-loop μ-loop Inv-loop2 μ-loop2
-row-at-requires-2 c κs = let t : Turn = search in turn-step (t .before .loop .inv .0) (t .before .loop .inv .1) (t .loop-test .taken) .asks
-
-up-requires : tie.Need-up-requires Inv-loop μ-loop Inv-loop2 μ-loop2
-up-requires c κs = let t : Turn = search in turn-up (t .before .loop .inv .0) (t .before .loop .inv .1) (t .loop-test .taken)
-
-sub-row-at : tie.Need-sub-row-at Inv-loop μ-loop Inv-loop2 μ-loop2
-sub-row-at c = let t : Turn = search in turn-above (t .before .loop .inv .0) (t .before .loop .inv .1) (t .loop-test .taken) .left
-
-row-at-requires-3 : tie.Need-row-at-requires-3 Inv-loop μ-loop Inv-loop2 μ-loop2
-row-at-requires-3 c κs = let t : Turn = search in turn-above (t .before .loop .inv .0) (t .before .loop .inv .1) (t .loop-test .taken) .row
-
-sub-row-at-2 : tie.Need-sub-row-at-2 Inv-loop μ-loop Inv-loop2 μ-loop2
-sub-row-at-2 c = let t : Turn = search in turn-above (t .before .loop .inv .0) (t .before .loop .inv .1) (t .loop-test .taken) .right
-
-row-at-requires-4 : tie.Need-row-at-requires-4 Inv-loop μ-loop Inv-loop2 μ-loop2
-row-at-requires-4 c κs = let t : Turn = search in turn-above (t .before .loop .inv .0) (t .before .loop .inv .1) (t .loop-test .taken) .asks
-
-down-requires : tie.Need-down-requires Inv-loop μ-loop Inv-loop2 μ-loop2
-down-requires c κs =
-    let u : tie.After-up Inv-loop μ-loop Inv-loop2 μ-loop2 = search in
+sweep-requires : tie.Need-sweep-requires Inv-loop μ-loop Inv-loop2 μ-loop2
+sweep-requires c κs =
     let t : Turn = search in
-    turn-down (t .before .loop .inv .0) (t .before .loop .inv .1) (t .loop-test .taken) (u .up .kept .0)
+    let s : tie.Start Inv-loop μ-loop Inv-loop2 μ-loop2 = search in
+    let v = t .before .loop .inv in
+    let r = s .pre .1 .0 in
+    walk-fit (v .0) (t .loop-test .taken) (v .1) (omega (arith, r .fits, v .0 .met .two .within), omega (arith, r .few, v .0 .met .two .within))
 
-turns-left-requires : tie.Need-turns-left-requires Inv-loop μ-loop Inv-loop2 μ-loop2
-turns-left-requires c κs =
-    let d : tie.After-down Inv-loop μ-loop Inv-loop2 μ-loop2 = search in
-    let u : tie.After-up Inv-loop μ-loop Inv-loop2 μ-loop2 = search in
+turns-requires-2 : tie.Need-turns-requires-2 Inv-loop μ-loop Inv-loop2 μ-loop2
+turns-requires-2 c κs =
+    let d : tie.After-sweep Inv-loop μ-loop Inv-loop2 μ-loop2 = search in
     let t : Turn = search in
-    turn-left (t .before .loop .inv .1) (t .loop-test .taken) (u .up .ensures) (d .down .ensures)
+    let v = t .before .loop .inv in
+    walk-swept-all (v .0) (d .sweep .last .1 .1 .0) (d .sweep .ensures) (v .1) (d .sweep .kept .1 .1 .0) .order
 
 loop-less : tie.Need-loop-less Inv-loop μ-loop Inv-loop2 μ-loop2
 loop-less c =
-    let d : tie.After-down Inv-loop μ-loop Inv-loop2 μ-loop2 = search in
-    let u : tie.After-up Inv-loop μ-loop Inv-loop2 μ-loop2 = search in
+    let d : tie.After-sweep Inv-loop μ-loop Inv-loop2 μ-loop2 = search in
     let t : Turn = search in
-    turn-less (t .before .loop .inv .1) (t .loop-test .taken) (u .up .ensures) (d .down .ensures)
+    let v = t .before .loop .inv in
+    omega (arith, t .loop-test .taken, walk-swept-all (v .0) (d .sweep .last .1 .1 .0) (d .sweep .ensures) (v .1) (d .sweep .kept .1 .1 .0) .less)
 
 loop-again : tie.Need-loop-again Inv-loop μ-loop Inv-loop2 μ-loop2
 loop-again c =
-    let d : tie.After-down Inv-loop μ-loop Inv-loop2 μ-loop2 = search in
-    let u : tie.After-up Inv-loop μ-loop Inv-loop2 μ-loop2 = search in
-    let t : Turn = search in (
-      turn-more (t .before .loop .inv .0) (t .before .loop .inv .1) (t .loop-test .taken) (u .before .before .row-at .ensures) (u .before .row-at2 .ensures) (u .up .ensures) (u .up .kept .0)
-          (d .before .before .before .row-at3 .ensures) (d .before .row-at4 .ensures) (d .down .ensures) (d .down .kept .0),
-      c .turns-left .ensures,
-    )
+    let d : tie.After-sweep Inv-loop μ-loop Inv-loop2 μ-loop2 = search in
+    let t : Turn = search in
+    let v = t .before .loop .inv in
+    (walk-swept-all (v .0) (d .sweep .last .1 .1 .0) (d .sweep .ensures) (v .1) (d .sweep .kept .1 .1 .0) .walk, c .turns2 .ensures)
 
 loop2-holds : tie.Need-loop2-holds Inv-loop μ-loop Inv-loop2 μ-loop2
 loop2-holds c = walk-on (c .before .loop .inv .0)
 
-row-at-requires-5 : tie.Need-row-at-requires-5 Inv-loop μ-loop Inv-loop2 μ-loop2
-row-at-requires-5 c κs = let r : Rest = search in rest-step (r .before .before .loop2 .inv) (r .before .between .ensures) (r .if1 .taken) .row
+row-at-requires : tie.Need-row-at-requires Inv-loop μ-loop Inv-loop2 μ-loop2
+row-at-requires c κs = let r : Rest = search in rest-step (r .before .before .loop2 .inv) (r .before .between .ensures) (r .if1 .taken) .row
 
-row-at-requires-6 : tie.Need-row-at-requires-6 Inv-loop μ-loop Inv-loop2 μ-loop2
-row-at-requires-6 c κs = let r : Rest = search in rest-step (r .before .before .loop2 .inv) (r .before .between .ensures) (r .if1 .taken) .asks
+row-at-requires-2 : tie.Need-row-at-requires-2 Inv-loop μ-loop Inv-loop2 μ-loop2
+row-at-requires-2 c κs = let r : Rest = search in rest-step (r .before .before .loop2 .inv) (r .before .between .ensures) (r .if1 .taken) .asks
 
-up-requires-2 : tie.Need-up-requires-2 Inv-loop μ-loop Inv-loop2 μ-loop2
-up-requires-2 c κs = let r : Rest = search in rest-step (r .before .before .loop2 .inv) (r .before .between .ensures) (r .if1 .taken) .up
+up-requires : tie.Need-up-requires Inv-loop μ-loop Inv-loop2 μ-loop2
+up-requires c κs = let r : Rest = search in rest-step (r .before .before .loop2 .inv) (r .before .between .ensures) (r .if1 .taken) .up
 
 loop2-less : tie.Need-loop2-less Inv-loop μ-loop Inv-loop2 μ-loop2
 loop2-less c =
-    let u : tie.After-up2 Inv-loop μ-loop Inv-loop2 μ-loop2 = search in
+    let u : tie.After-up Inv-loop μ-loop Inv-loop2 μ-loop2 = search in
     let r : Rest = search in
-    rest-less (r .before .between .ensures) (r .if1 .taken) (u .up2 .ensures)
+    rest-less (r .before .between .ensures) (r .if1 .taken) (u .up .ensures)
 
 loop2-again : tie.Need-loop2-again Inv-loop μ-loop Inv-loop2 μ-loop2
 loop2-again c =
-    let u : tie.After-up2 Inv-loop μ-loop Inv-loop2 μ-loop2 = search in
+    let u : tie.After-up Inv-loop μ-loop Inv-loop2 μ-loop2 = search in
     let r : Rest = search in
-    rest-more (r .before .before .loop2 .inv) (r .before .between .ensures) (r .if1 .taken) (u .before .before .row-at5 .ensures) (u .before .row-at6 .ensures) (u .up2 .ensures) (u .up2 .kept .0)
+    rest-more (r .before .before .loop2 .inv) (r .before .between .ensures) (r .if1 .taken) (u .before .before .row-at .ensures) (u .before .row-at2 .ensures) (u .up .ensures) (u .up .kept .0)
 
 settle-requires : tie.Need-settle-requires Inv-loop μ-loop Inv-loop2 μ-loop2
 settle-requires c κs = let l : tie.At-loop2 Inv-loop μ-loop Inv-loop2 μ-loop2 = search in walk-settle (l .loop2 .inv)
@@ -139,23 +114,15 @@ cross-spec =
     μ-loop2
     (λ c κs. search needs)
     loop-holds
-    add-up
-    row-at-requires
-    row-at-requires-2
-    up-requires
-    sub-row-at
-    row-at-requires-3
-    sub-row-at-2
-    row-at-requires-4
-    down-requires
-    turns-left-requires
+    sweep-requires
+    turns-requires-2
     loop-less
     loop-again
     loop2-holds
     (λ c κs. search needs)
-    row-at-requires-5
-    row-at-requires-6
-    up-requires-2
+    row-at-requires
+    row-at-requires-2
+    up-requires
     loop2-less
     loop2-again
     settle-requires

@@ -1,7 +1,7 @@
 -- What the private functions of two walks say, one from below and one from above, that meet. A step takes the row p, .., e - 1 of the one table and q, .., f - 1 of the other.
 use mathlib.Core.Path.{_≡_}
 use mathlib.Core.List.{_++_}
-use Prim.Native.Nat.{ℕ, _+_, _-_, _*_, _≤_, _<_, max, min}
+use Prim.Native.Nat.{ℕ, suc, _+_, _-_, _*_, _≤_, _<_, max, min}
 use Rattle.tables.specs.Inner.Rows.{Row, Rows, span}
 use Rattle.tables.specs.Inner.Sweep.{Holds}
 use Rattle.tables.specs.Inner.Unite.{Passed}
@@ -48,6 +48,27 @@ pub record Above (row : ℕ → Row) (u v t p e q f : ℕ) (row′ : ℕ → Row
   pub two : Dropped q (max p q) v v′
   pub raised : Raised (max p q) (min e f) t t′
   pub stores : Stores t row (t - 1) (max p q) (min e f) row′
+
+-- where both walks stand, and the rows that they laid
+pub record Places : Type 0 where
+  pub laid : ℕ → Row
+  pub i : ℕ
+  pub j : ℕ
+  pub k : ℕ
+  pub u : ℕ
+  pub v : ℕ
+  pub t : ℕ
+
+-- A turn: a step from below, which has room for one row, and a step from above
+pub record Turned (ra rb : ℕ → Row) (x y : Places) : Type 0 where
+  pub laid : ℕ → Row
+  pub below : Below (x .k + 1) (x .laid) (x .i) (x .j) (x .k) (ra (x .i) .start) (ra (x .i) .end) (rb (x .j) .start) (rb (x .j) .end) laid (y .i) (y .j) (y .k)
+  pub above : Above laid (x .u) (x .v) (x .t) (ra (x .u - 1) .start) (ra (x .u - 1) .end) (rb (x .v - 1) .start) (rb (x .v - 1) .end) (y .laid) (y .u) (y .v) (y .t)
+
+-- turns, one behind the other
+pub data Swept (ra rb : ℕ → Row) (x : Places) : ℕ → Places → Type 0 where
+  none : Swept ra rb x 0 x
+  more : (c : ℕ) (y z : Places) → Swept ra rb x c y → Turned ra rb y z → Swept ra rb x (suc c) z
 
 -- the table rs in two parts: the first k rows, as far as there is room below t, and the rows from t on
 pub record Halves (most : ℕ) (row : ℕ → Row) (k t : ℕ) (rs : Rows) : Type 0 where
