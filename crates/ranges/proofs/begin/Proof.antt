@@ -7,12 +7,6 @@ use borrow.Author.Needs.{needs}
 use Rattle.ranges.proofs.begin.Statement.{statement}
 use Rattle.ranges.proofs.begin.Tie as tie
 
-returns : tie.Need-returns
-returns c = united-none _ _ _ _ _ _ _
-
-returns-2 : tie.Need-returns-2
-returns-2 c = united-none _ _ _ _ _ _ _
-
 turn-requires : tie.Need-turn-requires
 turn-requires c κs = let s : tie.Start = search in (omega arith, (omega arith, (s .pre .0, (s .pre .1 .0, (s .pre .1 .1, united-none _ _ _ _ _ _ _)))))
 
@@ -54,8 +48,8 @@ pub begin-spec : {M : Type 1} → statement M
 begin-spec =
     tie.close
     (tie.spec
-    returns
-    returns-2
+    (λ c. united-none _ _ _ _ _ _ _)
+    (λ c. united-none _ _ _ _ _ _ _)
     turn-requires
     (λ c. search needs)
     returns-3
