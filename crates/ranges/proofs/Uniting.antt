@@ -9,7 +9,7 @@ use Rattle.tables.specs.Limits.{rowLimit}
 use Rattle.tables.specs.Inner.Rows.{Row}
 use Rattle.tables.specs.Inner.Unite.{Counted, Starts, Ends, Last, Adds, United}
 use Rattle.varint.proofs.Cases.{split}
-use Rattle.tables.proofs.Uniting.{adds, united-none, united-swap, united-rest, rest-left, rest-right}
+use Rattle.tables.proofs.Uniting.{adds, united-swap, united-rest}
 use Rattle.tables.proofs.Taking.{united-take}
 use Rattle.ranges.specs.Inner.{rowAt, Ruled, Picked, First, Going}
 use Rattle.ranges.proofs.Flat.{ruled-links}
@@ -32,50 +32,40 @@ adds-last e {room} {r = r} {f = f} {row₁ = row₁} {row₂ = row₂} u h l s q
 picked-of : (f : ℕ → ℕ) {p q i j r s t v : ℕ} → s ≡ f i → t ≡ f j → Picked p q i j r → Picked p q s t v → v ≡ f r
 picked-of f {p} {q} a b h k = ⊎-elim (λ o. k .off o ∙ (b ∙ ap f (sym (h .off o)))) (λ o. k .on o ∙ (a ∙ ap f (sym (h .on o)))) (split q p)
 
--- i rows of the one table and j of the other are taken, and the output, which had len elements, has their union
-pub record Uniting (a : List ℕ) (n : ℕ) (b : List ℕ) (m most len : ℕ) (out : List ℕ) (i j k e : ℕ) : Type 0 where
+-- i rows of the one table and j of the other are taken, and the output has their union
+abbrev pub Far : List ℕ → ℕ → List ℕ → ℕ → ℕ → List ℕ → ℕ → ℕ → ℕ → ℕ → Type 0
+Far a n b m most out i j k e = United 4294967296 (rowAt a) n i (rowAt b) m j most (rowAt out) k e
+
+-- what a function of the union is given; So is how far it has come, `Far` or `Going`
+abbrev Given : List ℕ → ℕ → List ℕ → ℕ → ℕ → List ℕ → Type 0 → Type 0
+Given a n b m most out So = Ruled a n × (Ruled b m × ((2 * most ≤ length out) × So))
+
+-- the two tables, and the output, which had len elements
+pub record Lent (a : List ℕ) (n : ℕ) (b : List ℕ) (m most len : ℕ) (out : List ℕ) : Type 0 where
   pub one : Ruled a n
   pub two : Ruled b m
   pub room : 2 * most ≤ len
   pub same : length out ≡ len
-  pub united : United 4294967296 (rowAt a) n i (rowAt b) m j most (rowAt out) k e
-
--- what `rest` and `turn` are given
-abbrev Given : List ℕ → ℕ → List ℕ → ℕ → ℕ → List ℕ → ℕ → ℕ → ℕ → ℕ → Type 0
-Given a n b m most out i j k e = Ruled a n × (Ruled b m × ((2 * most ≤ length out) × United 4294967296 (rowAt a) n i (rowAt b) m j most (rowAt out) k e))
 
 module _ {a : List ℕ} {n : ℕ} {b : List ℕ} {m most : ℕ} where
-  pub uniting-from : {out : List ℕ} {i j k e : ℕ} → Given a n b m most out i j k e → Uniting a n b m most (length out) out i j k e
-  uniting-from h = record { one = h .0; two = h .1 .0; room = h .1 .1 .0; same = refl; united = h .1 .1 .1 }
+  pub lent-from : {out : List ℕ} {So : Type 0} → Given a n b m most out So → Lent a n b m most (length out) out
+  lent-from h = record { one = h .0; two = h .1 .0; room = h .1 .1 .0; same = refl }
 
-  pub uniting-none : {out : List ℕ} → Ruled a n → Ruled b m → 2 * most ≤ length out → Uniting a n b m most (length out) out 0 0 0 0
-  uniting-none p q r = uniting-from (p, (q, (r, united-none _ _ _ _ _ _ _)))
+  module _ {len : ℕ} {out : List ℕ} (v : Lent a n b m most len out) where
+    pub lent-given : {So : Type 0} → So → Given a n b m most out So
+    lent-given u = (v .one, (v .two, (omega (arith, v .room, v .same), u)))
 
-  module _ {len : ℕ} {out : List ℕ} {i j k e : ℕ} (v : Uniting a n b m most len out i j k e) where
+    pub lent-swap : Lent b m a n most len out
+    lent-swap = record { one = v .two; two = v .one; room = v .room; same = v .same }
+
+    -- something was put out
+    pub lent-on : {out′ : List ℕ} → length out′ ≡ length out → Lent a n b m most len out′
+    lent-on l = record { one = v .one; two = v .two; room = v .room; same = l ∙ v .same }
+
+  module _ {len : ℕ} {out : List ℕ} {i j k e : ℕ} (v : Lent a n b m most len out) (u : Far a n b m most out i j k e) where
     -- what `join` asks
-    pub uniting-asks : {x y : ℕ} → x < y → (2 * most ≤ length out) × (Last most (rowAt out) k e × ((k ≤ 2 * rowLimit) × ((e ≤ 4294967296) × (x < y))))
-    uniting-asks h = (
-      omega (arith, v .room, v .same),
-      (v .united .last, (omega (arith, v .united .few, v .one .few, v .two .few, v .united .one .within, v .united .two .within), (v .united .most, h))),
-    )
-
-    pub uniting-given : Given a n b m most out i j k e
-    uniting-given = (v .one, (v .two, (omega (arith, v .room, v .same), v .united)))
-
-    -- the same, where no row of the other table is left, and where none of this one is
-    pub uniting-left : m ≤ j → Given a n b m most out i m k e
-    uniting-left h = (v .one, (v .two, (uniting-given .1 .1 .0, rest-right h (v .united))))
-
-    pub uniting-right : n ≤ i → Given b m a n most out j n k e
-    uniting-right h = (v .two, (v .one, (uniting-given .1 .1 .0, rest-left h (v .united))))
-
-    -- the output as it stands
-    pub uniting-anew : Uniting a n b m most (length out) out i j k e
-    uniting-anew = uniting-from uniting-given
-
-    -- further rows are taken
-    pub uniting-on : {out′ : List ℕ} {i′ j′ k′ e′ : ℕ} → length out′ ≡ length out → United 4294967296 (rowAt a) n i′ (rowAt b) m j′ most (rowAt out′) k′ e′ → Uniting a n b m most len out′ i′ j′ k′ e′
-    uniting-on l u = record { one = v .one; two = v .two; room = v .room; same = l ∙ v .same; united = u }
+    pub far-asks : {x y : ℕ} → x < y → (2 * most ≤ length out) × (Last most (rowAt out) k e × ((k ≤ 2 * rowLimit) × ((e ≤ 4294967296) × (x < y))))
+    far-asks h = (omega (arith, v .room, v .same), (u .last, (omega (arith, u .few, v .one .few, v .two .few, u .one .within, u .two .within), (u .most, h))))
 
     -- A TURN
     module _ {p q x y i′ j′ : ℕ} (h : i < n) (g : j < m) (s : p ≡ rowAt a i .start) (t : q ≡ rowAt b j .start) (w : First (rowAt a) (rowAt b) i j p q x y i′ j′) where
@@ -85,87 +75,51 @@ module _ {a : List ℕ} {n : ℕ} {b : List ℕ} {m most : ℕ} where
           (λ o. omega (arith, w .start .on o, w .end .on o, s, v .one .ruled i h .filled))
           (split q p)
 
-      pub first-more : {r f : ℕ} {out′ : List ℕ} → length out′ ≡ length out → Adds most (rowAt out) k e x y (rowAt out′) r → y < 4294967296 → f ≡ max e (y + 1) → Uniting a n b m most len out′ i′ j′ r f
-      first-more {r} {f} {out′} l d o z = uniting-on l (⊎-elim right left (split q p))
+      pub first-more : {r f : ℕ} (out′ : List ℕ) → Adds most (rowAt out) k e x y (rowAt out′) r → y < 4294967296 → f ≡ max e (y + 1) → Far a n b m most out′ i′ j′ r f
+      first-more {r} {f} out′ d o z = ⊎-elim right left (split q p)
         where
-          to : {i₁ j₁ : ℕ} → i₁ ≡ i′ → j₁ ≡ j′ → United 4294967296 (rowAt a) n i₁ (rowAt b) m j₁ most (rowAt out′) r f → United 4294967296 (rowAt a) n i′ (rowAt b) m j′ most (rowAt out′) r f
-          to c c′ u = subst₂ (λ (z z′ : ℕ). United 4294967296 (rowAt a) n z (rowAt b) m z′ most (rowAt out′) r f) c c′ u
+          to : {i₁ j₁ : ℕ} → i₁ ≡ i′ → j₁ ≡ j′ → Far a n b m most out′ i₁ j₁ r f → Far a n b m most out′ i′ j′ r f
+          to c c′ l = subst₂ (λ (z z′ : ℕ). Far a n b m most out′ z z′ r f) c c′ l
 
-          right : q < p → United 4294967296 (rowAt a) n i′ (rowAt b) m j′ most (rowAt out′) r f
+          right : q < p → Far a n b m most out′ i′ j′ r f
           right c =
               to (sym (w .one .off c)) (sym (w .two .off c))
               (united-swap _ _ _ _ _ _ _ _ _ _ _
               (united-take 4294967296 (rowAt b) m (rowAt a) n most (λ _. refl) (λ _. refl) (ruled-links (v .two)) (ruled-links (v .one)) j i k e r x y f (rowAt out) (rowAt out′) g
-              (w .start .off c ∙ t) (w .end .off c) (λ _. omega (arith, w .start .off c, s)) (united-swap _ _ _ _ _ _ _ _ _ _ _ (v .united)) d o z))
+              (w .start .off c ∙ t) (w .end .off c) (λ _. omega (arith, w .start .off c, s)) (united-swap _ _ _ _ _ _ _ _ _ _ _ u) d o z))
 
-          left : p ≤ q → United 4294967296 (rowAt a) n i′ (rowAt b) m j′ most (rowAt out′) r f
+          left : p ≤ q → Far a n b m most out′ i′ j′ r f
           left c =
               to (sym (w .one .on c)) (sym (w .two .on c))
               (united-take 4294967296 (rowAt a) n (rowAt b) m most (λ _. refl) (λ _. refl) (ruled-links (v .one)) (ruled-links (v .two)) i j k e r x y f (rowAt out) (rowAt out′) h
-              (w .start .on c ∙ s) (w .end .on c) (λ _. omega (arith, w .start .on c, t)) (v .united) d o z)
+              (w .start .on c ∙ s) (w .end .on c) (λ _. omega (arith, w .start .on c, t)) u d o z)
 
   -- A TURN, where no row of the other table is left
-  module _ {len : ℕ} {out : List ℕ} {i k e x y : ℕ} (v : Uniting a n b m most len out i m k e) (h : i < n) (s : x ≡ rowAt a i .start) (t : y ≡ rowAt a i .end) where
-    pub alone-asks : (2 * most ≤ length out) × (Last most (rowAt out) k e × ((k ≤ 2 * rowLimit) × ((e ≤ 4294967296) × (x < y))))
-    alone-asks = uniting-asks v (omega (arith, s, t, v .one .ruled i h .filled))
+  module _ {len : ℕ} {out : List ℕ} {i k e x y : ℕ} (v : Lent a n b m most len out) (u : Far a n b m most out i m k e) (h : i < n) (s : x ≡ rowAt a i .start) (t : y ≡ rowAt a i .end) where
+    pub alone-filled : x < y
+    alone-filled = omega (arith, s, t, v .one .ruled i h .filled)
 
-    pub alone-more : {r f : ℕ} {out′ : List ℕ} → length out′ ≡ length out → Adds most (rowAt out) k e x y (rowAt out′) r → y < 4294967296 → f ≡ max e (y + 1) → Uniting a n b m most len out′ (i + 1) m r f
-    alone-more l d o z = uniting-on v l (united-rest _ _ _ _ _ _ (λ _. refl) (λ _. refl) (ruled-links (v .one)) (ruled-links (v .two)) _ _ _ _ _ _ _ _ _ h s t (v .united) d o z)
+    pub alone-more : {r f : ℕ} {out′ : List ℕ} → length out′ ≡ length out → Adds most (rowAt out) k e x y (rowAt out′) r → y < 4294967296 → f ≡ max e (y + 1) → Lent a n b m most len out′ × Far a n b m most out′ (i + 1) m r f
+    alone-more l d o z = (lent-on v l, united-rest _ _ _ _ _ _ (λ _. refl) (λ _. refl) (ruled-links (v .one)) (ruled-links (v .two)) _ _ _ _ _ _ _ _ _ h s t u d o z)
 
--- ## Rows taken with the next starts at hand
+  -- rows of both tables are left, and some were put out
+  pub far-going : {out : List ℕ} {i j k e f p q : ℕ} → Far a n b m most out i j k e → e ≡ f + 1 → i < n → j < m → p ≡ rowAt a i .start → q ≡ rowAt b j .start → Going a n b m most out i j k f p q
+  far-going {out} {i} {j} {k} u h l r s t = record { united = subst (Far a n b m most out i j k) h u; left = l; right = r; one = s; two = t }
 
--- what `step`, `run` and `front` are given
-abbrev Ahead : List ℕ → ℕ → List ℕ → ℕ → ℕ → List ℕ → ℕ → ℕ → ℕ → ℕ → ℕ → ℕ → Type 0
-Ahead a n b m most out i j k e p q = Ruled a n × (Ruled b m × ((2 * most ≤ length out) × Going a n b m most out i j k e p q))
+  -- A TURN with the next starts at hand, where a row is left behind them in both tables, and room
+  module _ {len : ℕ} {out : List ℕ} {i j k e p q x y i′ j′ : ℕ} (v : Lent a n b m most len out) (g : Going a n b m most out i j k e p q) (w : First (rowAt a) (rowAt b) i j p q x y i′ j′) where
+    -- what `add` asks
+    pub going-asks : k < most → (2 * most ≤ length out) × (Last most (rowAt out) k (e + 1) × ((k ≤ 2 * rowLimit) × ((k < most) × (x < y))))
+    going-asks f = let z = far-asks v (g .united) (first-filled v (g .united) (g .left) (g .right) (g .one) (g .two) w) in (z .0, (z .1 .0, (z .1 .1 .0, (f, z .1 .1 .1 .1))))
 
--- the same of an output that had len elements
-pub record Along (a : List ℕ) (n : ℕ) (b : List ℕ) (m most len : ℕ) (out : List ℕ) (i j k e p q : ℕ) : Type 0 where
-  pub one : Ruled a n
-  pub two : Ruled b m
-  pub room : 2 * most ≤ len
-  pub same : length out ≡ len
-  pub going : Going a n b m most out i j k e p q
-
-module _ {a : List ℕ} {n : ℕ} {b : List ℕ} {m most : ℕ} where
-  pub along-from : {out : List ℕ} {i j k e p q : ℕ} → Ahead a n b m most out i j k e p q → Along a n b m most (length out) out i j k e p q
-  along-from h = record { one = h .0; two = h .1 .0; room = h .1 .1 .0; same = refl; going = h .1 .1 .1 }
-
-  -- after a turn of `turn`
-  pub along-start : {out : List ℕ} {i j k e f p q : ℕ} → Uniting a n b m most (length out) out i j k e → e ≡ f + 1 → i < n → j < m → p ≡ rowAt a i .start → q ≡ rowAt b j .start → Ahead a n b m most out i j k f p q
-  along-start {out} {i} {j} {k} v h l r s t =
-      (v .one, (v .two, (v .room, record { united = subst (λ (x : ℕ). United 4294967296 (rowAt a) n i (rowAt b) m j most (rowAt out) k x) h (v .united); left = l; right = r; one = s; two = t })))
-
-  module _ {len : ℕ} {out : List ℕ} {i j k e p q : ℕ} (v : Along a n b m most len out i j k e p q) where
-    pub along-given : Ahead a n b m most out i j k e p q
-    along-given = (v .one, (v .two, (omega (arith, v .room, v .same), v .going)))
-
-    -- the output as it stands
-    pub along-anew : Along a n b m most (length out) out i j k e p q
-    along-anew = along-from along-given
-
-    -- further rows are taken
-    pub along-on : {out′ : List ℕ} {i′ j′ k′ e′ p′ q′ : ℕ} → length out′ ≡ length out → Going a n b m most out′ i′ j′ k′ e′ p′ q′ → Along a n b m most len out′ i′ j′ k′ e′ p′ q′
-    along-on l g = record { one = v .one; two = v .two; room = v .room; same = l ∙ v .same; going = g }
-
-    -- A ROW, where one is left behind it in both tables, and room
-    module _ {x y i′ j′ : ℕ} (l : i + 1 < n) (r : j + 1 < m) (f : k < most) (w : First (rowAt a) (rowAt b) i j p q x y i′ j′) where
-      on : Uniting a n b m most len out i j k (e + 1)
-      on = record { one = v .one; two = v .two; room = v .room; same = v .same; united = v .going .united }
-
-      -- what `add` asks
-      pub along-asks : (2 * most ≤ length out) × (Last most (rowAt out) k (e + 1) × ((k ≤ 2 * rowLimit) × ((k < most) × (x < y))))
-      along-asks =
-          let u = uniting-asks on (first-filled on (v .going .left) (v .going .right) (v .going .one) (v .going .two) w) in
-          (u .0, (u .1 .0, (u .1 .1 .0, (f, u .1 .1 .1 .1))))
-
-      pub along-more : {u t z g p′ q′ : ℕ} {out′ : List ℕ} → length out′ ≡ length out → Adds most (rowAt out) k (e + 1) x y (rowAt out′) z → y < 4294967296 → g ≡ max e y
-          → u ≡ rowAt a (i + 1) .start → t ≡ rowAt b (j + 1) .start → Picked p q u p p′ → Picked p q q t q′ → Going a n b m most out′ i′ j′ z g p′ q′
-      along-more {g = g} {out′ = out′} c d o h s t a₂ b₂ =
-          let top : g + 1 ≡ max (e + 1) (y + 1) = omega arith in
-          record {
-            united = first-more on (v .going .left) (v .going .right) (v .going .one) (v .going .two) w {out′ = out′} c d o top .united;
-            left = omega (arith, first-few w .0);
-            right = omega (arith, first-few w .1);
-            one = picked-of (λ (i : ℕ). rowAt a i .start) s (v .going .one) (w .one) a₂;
-            two = picked-of (λ (j : ℕ). rowAt b j .start) (v .going .two) t (w .two) b₂;
-          }
+    pub going-more : {u t z f p′ q′ : ℕ} {out′ : List ℕ} → i + 1 < n → j + 1 < m → Adds most (rowAt out) k (e + 1) x y (rowAt out′) z → y < 4294967296 → f ≡ max e y
+        → u ≡ rowAt a (i + 1) .start → t ≡ rowAt b (j + 1) .start → Picked p q u p p′ → Picked p q q t q′ → Going a n b m most out′ i′ j′ z f p′ q′
+    going-more {f = f} {out′ = out′} l r d o h s t a₂ b₂ =
+        let top : f + 1 ≡ max (e + 1) (y + 1) = omega arith in
+        record {
+          united = first-more v (g .united) (g .left) (g .right) (g .one) (g .two) w out′ d o top;
+          left = omega (arith, first-few w .0);
+          right = omega (arith, first-few w .1);
+          one = picked-of (λ (i : ℕ). rowAt a i .start) s (g .one) (w .one) a₂;
+          two = picked-of (λ (j : ℕ). rowAt b j .start) (g .two) t (w .two) b₂;
+        }

@@ -1,19 +1,14 @@
 -- One row is taken by `turn`, so that there is a last row, and then `front` goes on if both tables have rows left. Assumes nothing.
 use mathlib.Core.Path.{_∙_}
 use native.Mathlib.Omega.{arith}
-use Rattle.ranges.proofs.Uniting.{uniting-none, uniting-given, uniting-on, uniting-anew, along-start}
+use Rattle.tables.proofs.Uniting.{united-none}
+use Rattle.ranges.proofs.Uniting.{far-going}
 use borrow.Author.Needs.{needs}
 use Rattle.ranges.proofs.begin.Statement.{statement}
 use Rattle.ranges.proofs.begin.Tie as tie
 
-returns : tie.Need-returns
-returns c = let s : tie.Start = search in uniting-none {out = s .args .out .now} (s .pre .0) (s .pre .1 .0) (s .pre .1 .1) .united
-
-returns-2 : tie.Need-returns-2
-returns-2 c = let s : tie.Start = search in uniting-none {out = s .args .out .now} (s .pre .0) (s .pre .1 .0) (s .pre .1 .1) .united
-
 turn-requires : tie.Need-turn-requires
-turn-requires c κs = let s : tie.Start = search in (omega arith, (omega arith, uniting-given (uniting-none {out = s .args .out .now} (s .pre .0) (s .pre .1 .0) (s .pre .1 .1))))
+turn-requires c κs = let s : tie.Start = search in (omega arith, (omega arith, (s .pre .0, (s .pre .1 .0, (s .pre .1 .1, united-none _ _ _ _ _ _ _)))))
 
 returns-3 : tie.Need-returns-3
 returns-3 c = let t : tie.After-turn = search in t .turn .ensures .0
@@ -40,8 +35,8 @@ front-requires c κs =
     let d : tie.Else3 = search in
     let t : tie.After-turn = search in
     let s : tie.Start = search in
-    along-start (uniting-anew (uniting-on (uniting-none {out = s .args .out .now} (s .pre .0) (s .pre .1 .0) (s .pre .1 .1)) {out′ = t .turn .last .1 .1 .1 .1 .0} (t .turn .kept .1 .1 .1 .1 .0) (t .turn .ensures .0)))
-    (omega (arith, t .turn .ensures .1 .1)) (omega (arith, d .if3 .left)) (omega (arith, e .if4 .left)) (q .before .start-at .ensures) (q .start-at2 .ensures)
+    let h = t .turn .ensures in
+    (s .pre .0, (s .pre .1 .0, (omega (arith, s .pre .1 .1, t .turn .kept .1 .1 .1 .1 .0), far-going (h .0) (omega (arith, h .1 .1)) (omega (arith, d .if3 .left)) (omega (arith, e .if4 .left)) (q .before .start-at .ensures) (q .start-at2 .ensures))))
 
 same-length-3 : tie.Need-same-length-3
 same-length-3 c = let f : tie.After-front = search in let e : tie.Else4 = search in let t : tie.After-turn = search in f .front .kept .1 .1 .1 .1 .0 ∙ t .turn .kept .1 .1 .1 .1 .0
@@ -53,8 +48,8 @@ pub begin-spec : {M : Type 1} → statement M
 begin-spec =
     tie.close
     (tie.spec
-    returns
-    returns-2
+    (λ c. united-none _ _ _ _ _ _ _)
+    (λ c. united-none _ _ _ _ _ _ _)
     turn-requires
     (λ c. search needs)
     returns-3

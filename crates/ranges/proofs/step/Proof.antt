@@ -1,7 +1,7 @@
 -- As in `turn`; what starts next was read already. Assumes nothing.
 use native.Mathlib.Omega.{arith}
 use borrow.Author.Needs.{needs}
-use Rattle.ranges.proofs.Uniting.{first-moves, first-few, along-from, along-asks, along-more}
+use Rattle.ranges.proofs.Uniting.{first-moves, first-few, lent-from, going-asks, going-more}
 use Rattle.ranges.proofs.step.Statement.{statement}
 use Rattle.ranges.proofs.step.Tie as tie
 
@@ -21,7 +21,8 @@ add-requires : tie.Need-add-requires
 add-requires c κs =
     let w : tie.After-choose = search in
     let s : tie.Start = search in
-    along-asks (along-from {out = s .args .out .now} (s .pre .1 .1 .1)) (s .pre .0) (s .pre .1 .0) (s .pre .1 .1 .0) (w .choose .ensures)
+    let g = s .pre .1 .1 .1 in
+    going-asks (lent-from {out = s .args .out .now} g) (g .1 .1 .1) (w .choose .ensures) (s .pre .1 .1 .0)
 
 returns : tie.Need-returns
 returns c =
@@ -30,8 +31,9 @@ returns c =
     let w : tie.After-choose = search in
     let u : tie.After-next-start2 = search in
     let s : tie.Start = search in
+    let g = s .pre .1 .1 .1 in
     let f = w .choose .ensures in (
-      along-more (along-from {out = s .args .out .now} (s .pre .1 .1 .1)) (s .pre .0) (s .pre .1 .0) (s .pre .1 .1 .0) f (d .add .kept .0) (d .add .ensures) (omega (arith, w .choose .ok)) (h .higher .ensures)
+      going-more (lent-from {out = s .args .out .now} g) (g .1 .1 .1) f (s .pre .0) (s .pre .1 .0) (d .add .ensures) (omega (arith, w .choose .ok)) (h .higher .ensures)
           (u .before .next-start .ensures) (u .next-start2 .ensures) (c .before .first .ensures) (c .first2 .ensures),
       (first-few f .0, (first-few f .1, (d .add .ensures .few, first-moves f))),
     )

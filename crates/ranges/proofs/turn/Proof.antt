@@ -1,7 +1,7 @@
 -- The row that starts first is added to the union so far. Assumes nothing.
 use native.Mathlib.Omega.{arith}
 use borrow.Author.Needs.{needs}
-use Rattle.ranges.proofs.Uniting.{first-moves, uniting-from, uniting-asks, first-filled, first-more}
+use Rattle.ranges.proofs.Uniting.{first-moves, lent-from, far-asks, first-filled, first-more}
 use Rattle.ranges.proofs.turn.Statement.{statement}
 use Rattle.ranges.proofs.turn.Tie as tie
 
@@ -10,8 +10,9 @@ join-requires c κs =
     let w : tie.After-choose = search in
     let p : tie.After-start-at2 = search in
     let s : tie.Start = search in
-    let v = uniting-from {out = s .args .out .now} (s .pre .1 .1) in
-    uniting-asks v (first-filled v (s .pre .0) (s .pre .1 .0) (p .before .start-at .ensures) (p .start-at2 .ensures) (w .choose .ensures))
+    let v = lent-from {out = s .args .out .now} (s .pre .1 .1) in
+    let u = s .pre .1 .1 .1 .1 .1 in
+    far-asks v u (first-filled v u (s .pre .0) (s .pre .1 .0) (p .before .start-at .ensures) (p .start-at2 .ensures) (w .choose .ensures))
 
 returns : tie.Need-returns
 returns c =
@@ -19,9 +20,10 @@ returns c =
     let w : tie.After-choose = search in
     let p : tie.After-start-at2 = search in
     let s : tie.Start = search in
-    let v = uniting-from {out = s .args .out .now} (s .pre .1 .1) in
+    let v = lent-from {out = s .args .out .now} (s .pre .1 .1) in
+    let u = s .pre .1 .1 .1 .1 .1 in
     let f = w .choose .ensures in (
-      first-more v (s .pre .0) (s .pre .1 .0) (p .before .start-at .ensures) (p .start-at2 .ensures) f {out′ = j .join .last .0} (j .join .kept .0) (j .join .ensures) (omega (arith, w .choose .ok)) (c .further .ensures) .united,
+      first-more v u (s .pre .0) (s .pre .1 .0) (p .before .start-at .ensures) (p .start-at2 .ensures) f (j .join .last .0) (j .join .ensures) (omega (arith, w .choose .ok)) (c .further .ensures),
       (omega (arith, first-moves f), omega (arith, c .further .ensures)),
     )
 
