@@ -13,7 +13,7 @@ ghost use Rattle.tables.specs.Inner.Differ.{GapStart, GapEnd};
 ghost use Rattle.tables.specs.Inner.Ends.{Stores, Dropped, Raised, Turns, Inside, Below, Above, Halves, GapsFrom, GapsTo};
 ghost use Rattle.tables.specs.Inner.Edit.{range, Advanced, Parted, starts, ends, Starting, Ending, Moved, Stands};
 ghost use Rattle.ranges.specs.Tables.{most, Merged, Excluded, Intersected, Inserted, Removed, FromRanges, ContainsClock, FindStart, ClockStart, ClockEnd, Len, IsEmpty, Get};
-ghost use Rattle.ranges.specs.Inner.{rowAt, rowsOf, Ruled, Wrote, Picked, First, Going};
+ghost use Rattle.ranges.specs.Inner.{rowAt, rowsOf, Ruled, Fronts, Wrote, Picked, First, Going};
 
 // An index, or none, or why there is no answer.
 pub enum Place {
@@ -82,6 +82,37 @@ fn well_formed(t: &[u32], n: usize) -> bool
     let mut i = 1;
     while i < e {
         ok = ok & (t[i - 1] < t[i]);
+        i += 1;
+    }
+    ok
+}
+
+// Whether the first `n` rows of `src` are a table. As many of them as `out` has room for are copied in the same pass, which becomes SIMD too.
+fn copied(src: &[u32], n: usize, out: &mut [u32]) -> bool
+    ensures { λ r. ⌜ Says (Ruled (now (src .entry)) n) r ⌝ }
+    ensures { λ r. ⌜ (Ruled (now (src .entry)) n → Fronts (now (src .entry)) n (now (out .exit))) ⌝ }
+{
+    if tables::ROW_LIMIT < n {
+        return false;
+    }
+    if src.len() / 2 < n {
+        return false;
+    }
+    let e = 2 * n;
+    let f = 2 * tables::lesser(n, room(out.len()));
+    if f == 0 {
+        return well_formed(src, n);
+    }
+    let mut ok = true;
+    let mut i = 1;
+    while i < f {
+        ok = ok & (src[i - 1] < src[i]);
+        out[i - 1] = src[i - 1];
+        i += 1;
+    }
+    out[f - 1] = src[f - 1];
+    while i < e {
+        ok = ok & (src[i - 1] < src[i]);
         i += 1;
     }
     ok
