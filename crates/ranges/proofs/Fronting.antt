@@ -1,11 +1,13 @@
 -- A pass that checks rows and copies them: which rows stand in the output then, and what an insert and a remove still have to lay there. Assumes nothing.
-use mathlib.Core.Path.{_≡_, subst, subst₂}
+use mathlib.Core.Path.{_≡_, refl, ap, subst, subst₂, _∙_}
 use mathlib.Core.Bool.{false}
 use mathlib.Core.List.{List}
 use Prim.Native.Nat.{ℕ, _+_, _-_, _*_, _/_, _≤_, _<_, min}
 use native.Mathlib.Omega.{arith}
 use lib.ListN.{length, getD, set}
 use Rattle.tables.specs.Answers.{Says}
+use Rattle.tables.specs.Inner.Rows.{Row}
+use Rattle.tables.specs.Inner.Edit.{Moved}
 use Rattle.tables.proofs.Saying.{says-no}
 use Rattle.tables.proofs.Copying.{Copied, copied-more}
 use Rattle.ranges.specs.Tables.{most}
@@ -37,3 +39,18 @@ fronts {src} {out₀} {out} {n} {f} {g} d e c h =
 -- one turn fewer is left
 pub turn-less : {i f : ℕ} → i < f → f - (i + 1) < f - i
 turn-less h = omega arith
+
+-- ## Rows that stand there already
+
+pub front-moved : {t out : List ℕ} {n i : ℕ} → Fronts t n out → i ≤ n → i ≤ most (length out) → Moved (rowAt t) 0 i (rowAt out) 0 (rowAt out)
+front-moved f h l = record { before2 = λ x o. refl; there = λ x o. f .there (0 + x) (omega arith) (omega arith) }
+
+-- behind two pieces
+pub back-stands : {t out : List ℕ} {row row′ : ℕ → Row} {n x y : ℕ} → Fronts t n out → ((v : ℕ) → x ≤ v → row v ≡ rowAt out v) → ((v : ℕ) → y ≤ v → row′ v ≡ row v)
+    → x ≤ y → n ≤ most (length out) → (v : ℕ) → y ≤ v → v < n → row′ v ≡ rowAt t v
+back-stands f a b h l v o p = b v o ∙ (a v (omega arith) ∙ f .there v p (omega arith))
+
+-- so they need not be moved
+pub back-moved : (t out : List ℕ) (j n : ℕ) {y : ℕ} → ((x : ℕ) → y ≤ x → x < n → rowAt out x ≡ rowAt t x) → y ≡ j → Moved (rowAt t) j n (rowAt out) y (rowAt out)
+back-moved t out j n {y} f e =
+    record { before2 = λ x h. refl; there = λ x h. f (y + x) (omega arith) (omega arith) ∙ ap (λ (v : ℕ). rowAt t (v + x)) e }

@@ -372,10 +372,11 @@ fn copy(src: &[u32], a: usize, b: usize, out: &mut [u32], c: usize)
     }
 }
 
-// A piece stored as row `k`, and where the next row stands.
+// A piece stored as row `k`, and where the next row stands: from there on all rows stay.
 fn put(out: &mut [u32], k: usize, p: Piece) -> usize
     requires { ⌜ 2 * (k + length (range (p .start) (p .end))) ≤ length (now out) ⌝ }
     ensures { λ r. ⌜ Stands (rowAt (now (out .entry))) k (range (p .start) (p .end)) (rowAt (now (out .exit))) r ⌝ }
+    ensures { λ r. ⌜ ((x : ℕ) → r ≤ x → rowAt (now (out .exit)) x ≡ rowAt (now (out .entry)) x) ⌝ }
 {
     if p.end <= p.start {
         return k;
@@ -385,7 +386,21 @@ fn put(out: &mut [u32], k: usize, p: Piece) -> usize
     k + 1
 }
 
-// The rows before `i`, two pieces, and the rows from `j` on. FULL is decided before a row is stored.
+// The rows from `j` on, copied to row `y` on, unless they stand there already.
+fn follow(t: &[u32], j: usize, n: usize, out: &mut [u32], y: usize)
+    requires { ⌜ j ≤ n ⌝ }
+    requires { ⌜ 2 * n ≤ length (now t) ⌝ }
+    requires { ⌜ 2 * (y + (n - j)) ≤ length (now out) ⌝ }
+    requires { ⌜ (y ≡ j → (x : ℕ) → y ≤ x → x < n → rowAt (now out) x ≡ rowAt (now t) x) ⌝ }
+    ensures { λ r. ⌜ Moved (rowAt (now (t .entry))) j n (rowAt (now (out .entry))) y (rowAt (now (out .exit))) ⌝ }
+{
+    if y == j {
+        return;
+    }
+    copy(t, j, n, out, y);
+}
+
+// The rows before `i`, two pieces, and the rows from `j` on, where `out` holds the first rows of `t` already: those before `i` stay, and those from `j` on too if they keep their place. FULL is decided before a row is stored.
 fn splice(
     t: &[u32],
     n: usize,
@@ -398,16 +413,16 @@ fn splice(
     requires { ⌜ 2 * n ≤ length (now t) ⌝ }
     requires { ⌜ i ≤ j ⌝ }
     requires { ⌜ j ≤ n ⌝ }
+    requires { ⌜ Fronts (now t) n (now out) ⌝ }
     ensures { λ r. ⌜ Wrote (span (rowAt (now (t .entry))) 0 i ++ ((range (p .start) (p .end) ++ range (q .start) (q .end)) ++ span (rowAt (now (t .entry))) j (n - j))) (length (now (out .entry))) (now (out .exit)) r ⌝ }
 {
     let k = i + size(p) + size(q) + (n - j);
     if room(out.len()) < k {
         return finish(out, k);
     }
-    copy(t, 0, i, out, 0);
     let x = put(out, i, p);
     let y = put(out, x, q);
-    copy(t, j, n, out, y);
+    follow(t, j, n, out, y);
     finish(out, k)
 }
 
@@ -421,7 +436,7 @@ pub fn insert(
 ) -> tables::Made
     ensures { λ r. ⌜ Inserted (now (rows .entry)) n (start .0) (end .0) (length (now (out .entry))) (now (out .exit)) r ⌝ }
 {
-    if !well_formed(rows, n) {
+    if !copied(rows, n, out) {
         tables::zero(out);
         return tables::Made::Refused(varint::Refusal::Malformed);
     }
@@ -452,7 +467,7 @@ pub fn remove(
 ) -> tables::Made
     ensures { λ r. ⌜ Removed (now (rows .entry)) n (start .0) (end .0) (length (now (out .entry))) (now (out .exit)) r ⌝ }
 {
-    if !well_formed(rows, n) {
+    if !copied(rows, n, out) {
         tables::zero(out);
         return tables::Made::Refused(varint::Refusal::Malformed);
     }

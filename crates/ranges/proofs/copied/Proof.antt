@@ -58,10 +58,11 @@ loop2-again c = let l : tie.At-loop2 Inv-loop μ-loop Inv-loop2 μ-loop2 = searc
 returns-4 : tie.Need-returns-4 Inv-loop μ-loop Inv-loop2 μ-loop2
 returns-4 c =
     let l : tie.After-loop Inv-loop μ-loop Inv-loop2 μ-loop2 = search in
-    let m : tie.After-lesser Inv-loop μ-loop Inv-loop2 μ-loop2 = search in
-    (says-ruled (omega arith) (omega arith) (rose-all _ (c .before .loop2 .inv) (omega arith)),
-     λ _. fronts (m .lesser .ensures) (m .before .room .ensures)
-         (copied-next (l .before .loop .inv .1 .0) (omega arith) (omega arith) (fronts-fit _ _ (m .lesser .ensures) (m .before .room .ensures)) refl) (omega arith))
+    let m : tie.After-lesser Inv-loop μ-loop Inv-loop2 μ-loop2 = search in (
+      says-ruled (omega arith) (omega arith) (rose-all _ (c .before .loop2 .inv) (omega arith)),
+      λ _. fronts (m .lesser .ensures) (m .before .room .ensures)
+          (copied-next (l .before .loop .inv .1 .0) (omega arith) (omega arith) (fronts-fit _ _ (m .lesser .ensures) (m .before .room .ensures)) refl) (omega arith),
+    )
 
 pub copied-spec : {M : Type 1} → statement M
 copied-spec =
