@@ -288,7 +288,7 @@ pub fn contains_clock(t: &[u32], n: usize, clock: tables::Clock) -> tables::Told
     tables::Told::Yes
 }
 
-// ## Insert and remove: the rows that the range meets are found by halving, the others are copied.
+// ## Insert and remove: the check copies the rows as well. Then the rows that the range meets are found by halving, and those behind them are copied once more where their place changes.
 
 // How many rows start below `x`, where the first `i` do. Most ranges meet no row or one: these looks come first.
 fn starts_below(t: &[u32], n: usize, i: usize, x: u64) -> usize
