@@ -87,7 +87,7 @@ fn well_formed(t: &[u32], n: usize) -> bool
     ok
 }
 
-// Whether the first `n` rows of `src` are a table. As many of them as `out` has room for are copied in the same pass, which becomes SIMD too.
+// Whether the first `n` rows of `src` are a table. As many of them as `out` has room for are copied in the same pass, which becomes SIMD too; the others are only checked.
 fn copied(src: &[u32], n: usize, out: &mut [u32]) -> bool
     ensures { λ r. ⌜ Says (Ruled (now (src .entry)) n) r ⌝ }
     ensures { λ r. ⌜ (Ruled (now (src .entry)) n → Fronts (now (src .entry)) n (now (out .exit))) ⌝ }
@@ -400,7 +400,7 @@ fn follow(t: &[u32], j: usize, n: usize, out: &mut [u32], y: usize)
     copy(t, j, n, out, y);
 }
 
-// The rows before `i`, two pieces, and the rows from `j` on, where `out` holds the first rows of `t` already: those before `i` stay, and those from `j` on too if they keep their place. FULL is decided before a row is stored.
+// The rows before `i`, two pieces, and the rows from `j` on, where `out` holds the rows of `t` already, as far as there is room: those before `i` stay, and those from `j` on too where they keep their place. FULL is decided before a piece is stored.
 fn splice(
     t: &[u32],
     n: usize,

@@ -3,7 +3,6 @@ use mathlib.Core.Path.{refl}
 use Prim.Native.Nat.{_-_, _*_, _≤_}
 use native.Mathlib.Omega.{arith}
 use borrow.Author.Needs.{needs}
-use lib.ListN.{length-set}
 use Rattle.tables.proofs.Climbing.{Rose, rose-none, rose-more, rose-all}
 use Rattle.tables.proofs.Copying.{Copied, copied-none}
 use Rattle.ranges.proofs.Looking.{says-ruled}
