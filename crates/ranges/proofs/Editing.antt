@@ -39,15 +39,15 @@ gives-edited : {f : ℕ → ℕ → ℕ} {P : Type 0 → Type 0 → Type 0} {l :
 gives-edited {l = l} {n = n} {len = len} {out = out} {r = r} s e m p q w =
     gives _ (ruled-table p) (edited m l n s e (p .fits)) (subst (λ (t : inner.Rows). Wrote t len out r) q w)
 
--- ## After a test `if !well_formed(..)` that was left
+-- ## After a test `if !copied(..)` that was left
 
 module _ {l : List ℕ} {n : ℕ} {ok : Bool} (t : Says (Ruled l n) ok) (g : not ok ≡ false) where
   abbrev ruled : Ruled l n
   ruled = says-left t g
 
   -- what `splice` asks, and what `starts_below` asks behind the rows that end below lo
-  pub splice-asks : {i j : ℕ} → i ≤ j → j ≤ n → (2 * n ≤ length l) × ((i ≤ j) × (j ≤ n))
-  splice-asks o w = (omega (arith, ruled .fits), (o, w))
+  pub splice-asks : {P : Type 0} {i j : ℕ} → (Ruled l n → P) → i ≤ j → j ≤ n → (2 * n ≤ length l) × ((i ≤ j) × ((j ≤ n) × P))
+  splice-asks f o w = (omega (arith, ruled .fits), (o, (w, f ruled)))
 
   pub starts-ask : {lo hi i : ℕ} → lo ≤ hi → hi ≤ 4294967296 → Parted (ends (rowAt l)) n lo i i → Ruled l n × ((hi ≤ 4294967296) × Parted (starts (rowAt l)) n hi i n)
   starts-ask o b p = (ruled, (b, parted-from _ (ruled-plain ruled) p o))

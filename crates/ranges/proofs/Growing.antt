@@ -27,7 +27,7 @@ use Rattle.ranges.proofs.Plain.{bare-plain, table-one}
 use Rattle.ranges.proofs.Flat.{rows-plain, length-rows, table-ruled}
 use Rattle.ranges.proofs.Stores.{added-at}
 use Rattle.ranges.proofs.Moving.{stored-other}
-use Rattle.ranges.proofs.Writing.{filled-none}
+use Rattle.ranges.proofs.Writing.{filled-none, filled-zeros}
 use Rattle.ranges.proofs.Editing.{ruled-plain, edited}
 
 -- ## One range more
@@ -157,7 +157,7 @@ module _ {l : List ℕ} {n i len : ℕ} {out : List ℕ} {k : ℕ} (g : Grown l 
   grown-full o m z =
       full (i + 1) (map bare (combined union (rowsOf out k) (range s e))) (g .fits) (omega arith) next
       (omega (arith, length-map (combined union (rowsOf out k) (range s e)) bare, h .over (omega (arith, g .same)), g .same)) refl
-      (z ∙ (ap (λ (m : ℕ). replicate m 0) (c ∙ g .same) ∙ filled-none len))
+      (z ∙ filled-zeros (c ∙ g .same))
 
 pub grown-all : {l : List ℕ} {i n len : ℕ} {out out′ : List ℕ} {k : ℕ} {r : Made} → Grown l n i len out k → n ≤ i
     → ((rs : inner.Rows) → sweep.Holds (most (length out)) (rowAt out) k rs → Wrote rs (length out) out′ r) → FromRanges l n len out′ r

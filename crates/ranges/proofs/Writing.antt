@@ -29,6 +29,9 @@ pub filled-none : (len : ℕ) → replicate len 0 ≡ filled len []
 unfolding flat
 filled-none len = ap (λ (n : ℕ). replicate n 0) (let e : len ≡ len - 0 = omega arith in e)
 
+pub filled-zeros : {len len′ : ℕ} → len ≡ len′ → replicate len 0 ≡ filled len′ []
+filled-zeros {len′ = len′} e = ap (λ (n : ℕ). replicate n 0) e ∙ filled-none len′
+
 -- ## What finish leaves
 
 pub wrote-full : (l out : List ℕ) (k : ℕ) → most (length l) < k → out ≡ replicate (length l) 0

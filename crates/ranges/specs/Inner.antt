@@ -30,6 +30,10 @@ pub record Ruled (l : List ℕ) (n : ℕ) : Type 0 where
   pub fits : n ≤ length l / 2
   pub ruled : (i : ℕ) → i < n → Follows (rowAt l) i
 
+-- of the first n rows of t, as many as there is room for stand in out
+pub record Fronts (t : List ℕ) (n : ℕ) (out : List ℕ) : Type 0 where
+  pub there : (x : ℕ) → x < n → x < most (length out) → rowAt out x ≡ rowAt t x
+
 -- a row without its weight
 abbrev pub bare : inner.Row → Row
 bare r = row (r .start) (r .end)

@@ -13,7 +13,7 @@ ghost use Rattle.tables.specs.Inner.Differ.{GapStart, GapEnd};
 ghost use Rattle.tables.specs.Inner.Ends.{Stores, Dropped, Raised, Turns, Inside, Below, Above, Swept, Halves, GapsFrom, GapsTo};
 ghost use Rattle.tables.specs.Inner.Edit.{range, Advanced, Parted, starts, ends, Starting, Ending, Moved, Stands};
 ghost use Rattle.ranges.specs.Tables.{most, Merged, Excluded, Intersected, Inserted, Removed, FromRanges, ContainsClock, FindStart, ClockStart, ClockEnd, Len, IsEmpty, Get};
-ghost use Rattle.ranges.specs.Inner.{rowAt, rowsOf, Ruled, Wrote, Picked, First, Going, places, Fit};
+ghost use Rattle.ranges.specs.Inner.{rowAt, rowsOf, Ruled, Fronts, Wrote, Picked, First, Going, places, Fit};
 
 // An index, or none, or why there is no answer.
 pub enum Place {
@@ -82,6 +82,37 @@ fn well_formed(t: &[u32], n: usize) -> bool
     let mut i = 1;
     while i < e {
         ok = ok & (t[i - 1] < t[i]);
+        i += 1;
+    }
+    ok
+}
+
+// Whether the first `n` rows of `src` are a table. As many of them as `out` has room for are copied in the same pass, which becomes SIMD too; the others are only checked.
+fn copied(src: &[u32], n: usize, out: &mut [u32]) -> bool
+    ensures { λ r. ⌜ Says (Ruled (now (src .entry)) n) r ⌝ }
+    ensures { λ r. ⌜ (Ruled (now (src .entry)) n → Fronts (now (src .entry)) n (now (out .exit))) ⌝ }
+{
+    if tables::ROW_LIMIT < n {
+        return false;
+    }
+    if src.len() / 2 < n {
+        return false;
+    }
+    let e = 2 * n;
+    let f = 2 * tables::lesser(n, room(out.len()));
+    if f == 0 {
+        return well_formed(src, n);
+    }
+    let mut ok = true;
+    let mut i = 1;
+    while i < f {
+        ok = ok & (src[i - 1] < src[i]);
+        out[i - 1] = src[i - 1];
+        i += 1;
+    }
+    out[f - 1] = src[f - 1];
+    while i < e {
+        ok = ok & (src[i - 1] < src[i]);
         i += 1;
     }
     ok
@@ -257,7 +288,7 @@ pub fn contains_clock(t: &[u32], n: usize, clock: tables::Clock) -> tables::Told
     tables::Told::Yes
 }
 
-// ## Insert and remove: the rows that the range meets are found by halving, the others are copied.
+// ## Insert and remove: the check copies the rows as well. Then the rows that the range meets are found by halving, and those behind them are copied once more where their place changes.
 
 // How many rows start below `x`, where the first `i` do. Most ranges meet no row or one: these looks come first.
 fn starts_below(t: &[u32], n: usize, i: usize, x: u64) -> usize
@@ -341,10 +372,11 @@ fn copy(src: &[u32], a: usize, b: usize, out: &mut [u32], c: usize)
     }
 }
 
-// A piece stored as row `k`, and where the next row stands.
+// A piece stored as row `k`, and where the next row stands: from there on all rows stay.
 fn put(out: &mut [u32], k: usize, p: Piece) -> usize
     requires { ⌜ 2 * (k + length (range (p .start) (p .end))) ≤ length (now out) ⌝ }
     ensures { λ r. ⌜ Stands (rowAt (now (out .entry))) k (range (p .start) (p .end)) (rowAt (now (out .exit))) r ⌝ }
+    ensures { λ r. ⌜ ((x : ℕ) → r ≤ x → rowAt (now (out .exit)) x ≡ rowAt (now (out .entry)) x) ⌝ }
 {
     if p.end <= p.start {
         return k;
@@ -354,7 +386,21 @@ fn put(out: &mut [u32], k: usize, p: Piece) -> usize
     k + 1
 }
 
-// The rows before `i`, two pieces, and the rows from `j` on. FULL is decided before a row is stored.
+// The rows from `j` on, copied to row `y` on, unless they stand there already.
+fn follow(t: &[u32], j: usize, n: usize, out: &mut [u32], y: usize)
+    requires { ⌜ j ≤ n ⌝ }
+    requires { ⌜ 2 * n ≤ length (now t) ⌝ }
+    requires { ⌜ 2 * (y + (n - j)) ≤ length (now out) ⌝ }
+    requires { ⌜ (y ≡ j → (x : ℕ) → y ≤ x → x < n → rowAt (now out) x ≡ rowAt (now t) x) ⌝ }
+    ensures { λ r. ⌜ Moved (rowAt (now (t .entry))) j n (rowAt (now (out .entry))) y (rowAt (now (out .exit))) ⌝ }
+{
+    if y == j {
+        return;
+    }
+    copy(t, j, n, out, y);
+}
+
+// The rows before `i`, two pieces, and the rows from `j` on, where `out` holds the rows of `t` already, as far as there is room: those before `i` stay, and those from `j` on too where they keep their place. FULL is decided before a piece is stored.
 fn splice(
     t: &[u32],
     n: usize,
@@ -367,16 +413,16 @@ fn splice(
     requires { ⌜ 2 * n ≤ length (now t) ⌝ }
     requires { ⌜ i ≤ j ⌝ }
     requires { ⌜ j ≤ n ⌝ }
+    requires { ⌜ Fronts (now t) n (now out) ⌝ }
     ensures { λ r. ⌜ Wrote (span (rowAt (now (t .entry))) 0 i ++ ((range (p .start) (p .end) ++ range (q .start) (q .end)) ++ span (rowAt (now (t .entry))) j (n - j))) (length (now (out .entry))) (now (out .exit)) r ⌝ }
 {
     let k = i + size(p) + size(q) + (n - j);
     if room(out.len()) < k {
         return finish(out, k);
     }
-    copy(t, 0, i, out, 0);
     let x = put(out, i, p);
     let y = put(out, x, q);
-    copy(t, j, n, out, y);
+    follow(t, j, n, out, y);
     finish(out, k)
 }
 
@@ -390,7 +436,7 @@ pub fn insert(
 ) -> tables::Made
     ensures { λ r. ⌜ Inserted (now (rows .entry)) n (start .0) (end .0) (length (now (out .entry))) (now (out .exit)) r ⌝ }
 {
-    if !well_formed(rows, n) {
+    if !copied(rows, n, out) {
         tables::zero(out);
         return tables::Made::Refused(varint::Refusal::Malformed);
     }
@@ -421,7 +467,7 @@ pub fn remove(
 ) -> tables::Made
     ensures { λ r. ⌜ Removed (now (rows .entry)) n (start .0) (end .0) (length (now (out .entry))) (now (out .exit)) r ⌝ }
 {
-    if !well_formed(rows, n) {
+    if !copied(rows, n, out) {
         tables::zero(out);
         return tables::Made::Refused(varint::Refusal::Malformed);
     }

@@ -2,6 +2,7 @@
 use Rattle.tables.specs.Inner.Edit.{range}
 use Rattle.ranges.specs.Inner.{rowAt}
 use Rattle.ranges.proofs.Moving.{sized}
+use Rattle.ranges.proofs.Fronting.{front-moved, back-stands}
 use Rattle.ranges.proofs.Writing.{wrote-length}
 use Rattle.tables.proofs.Placing.{laid-holds, laid-over}
 use native.Mathlib.Omega.{arith}
@@ -30,13 +31,21 @@ returns c =
 returns-2 : tie.Need-returns-2
 returns-2 c =
     let f : tie.After-finish2 = search in
-    let d : tie.After-copy2 = search in
+    let d : tie.After-follow = search in
     let y : tie.After-put2 = search in
     let x : tie.After-put = search in
-    let a : tie.After-copy = search in
     let r : tie.After-room = search in
+    let s : tie.Start = search in
     wrote-length (omega arith)
-    (f .finish2 .ensures _ (laid-holds _ (a .copy .ensures) (x .put .ensures) (y .put2 .ensures) (d .copy2 .ensures) (omega (arith, r .before .before .size .ensures, r .before .size2 .ensures)) (omega (arith, r .room .ensures))))
+    (f .finish2 .ensures _ (laid-holds _ (front-moved (s .pre .1 .1 .1) (omega arith) (omega arith)) (x .put .ensures .0) (y .put2 .ensures .0) (d .follow .ensures) (omega (arith, r .before .before .size .ensures, r .before .size2 .ensures)) (omega (arith, r .room .ensures))))
+
+follow-requires : tie.Need-follow-requires
+follow-requires c κs =
+    let y : tie.After-put2 = search in
+    let x : tie.After-put = search in
+    let r : tie.After-room = search in
+    let s : tie.Start = search in
+    (omega arith, (omega arith, (omega arith, λ e. back-stands (s .pre .1 .1 .1) (x .put .ensures .1) (y .put2 .ensures .1) (omega arith) (omega arith))))
 
 pub splice-spec : {M : Type 1} → statement M
 splice-spec =
@@ -54,8 +63,7 @@ splice-spec =
     returns
     (λ c κs. search needs)
     (λ c κs. search needs)
-    (λ c κs. search needs)
-    (λ c κs. search needs)
+    follow-requires
     (λ c κs. search needs)
     (λ c. search needs)
     returns-2)
