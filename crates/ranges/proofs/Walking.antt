@@ -1,5 +1,5 @@
 -- Two walks over a table and other rows, which are those of a table or its gaps: what holds at every turn, and what a turn asks. Assumes nothing.
-use mathlib.Core.Path.{_≡_, refl, sym, subst₂, _∙_}
+use mathlib.Core.Path.{_≡_, refl, subst₂, _∙_}
 use mathlib.Core.Bool.{Bool, true, false}
 use mathlib.Core.List.{List}
 use Prim.Native.Nat.{ℕ, _+_, _-_, _*_, _≤_, _<_}
@@ -134,7 +134,7 @@ module _ {a : List ℕ} {n : ℕ} {rb : ℕ → inner.Row} {m : ℕ} {Asks : ℕ
         → Alike rb d read j₀ v₀ → Turns c i j₀ k u v₀ t → (j ≡ d + j₀) × (v ≡ d + v₀) → length out′ ≡ length out → Gone c i′ (d + j₁) k′ u′ (d + v₁) t′ out′
     walk-swept out′ d p same s e l =
         let r = swept-after (rowAt a) n rb m most (ruled-plain (w .one)) (w .two) d _ 0 p same (record { left = omega (arith, s .left); right = omega (arith, s .right); room = omega (arith, s .room) })
-            (subst₂ (λ (x y : ℕ). Meeting (rowAt a) n i u rb m x y most (rowAt out) k t) (e .0) (e .1) (w .met)) in
+        (subst₂ (λ (x y : ℕ). Meeting (rowAt a) n i u rb m x y most (rowAt out) k t) (e .0) (e .1) (w .met)) in
         record {
           walk = walk-to l (r .met);
           less = omega (arith, r .less, e .0, e .1, s .left, s .right);
@@ -205,15 +205,15 @@ module _ {m lo c i j k u v t : ℕ} (s : Inside m lo c i j k u v t) where
   pub inside-turns : Turns c i (j - 1) k u (v - 1) t
   inside-turns = record { left = s .turns .left; right = omega (arith, s .behind, s .turns .right); room = s .turns .room }
 
-  module _ (b : List ℕ) (f : 2 * m ≤ length b) where
+  module _ {b : List ℕ} (q : Ruled b m) where
     pub inside-starts : 2 * lo + 1 ≤ length b
-    inside-starts = omega (arith, s .before, s .behind, s .turns .right)
+    inside-starts = omega (arith, s .before, s .behind, s .turns .right, q .fits)
 
-    pub inside-fits : m ≤ rowLimit → (2 * (v - 1) ≤ length (inner-part b lo)) × (v - 1 ≤ rowLimit)
-    inside-fits h = (omega (arith, s .before, inner-length b lo), omega (arith, s .before))
+    pub inside-fits : (2 * (v - 1) ≤ length (inner-part b lo)) × (v - 1 ≤ rowLimit)
+    inside-fits = (omega (arith, s .before, q .fits, inner-length b lo), omega (arith, s .before, q .few))
 
     pub inside-alike : Alike (gaps 4294967295 (rowAt b) m lo) 1 (rowAt (inner-part b lo)) (j - 1) (v - 1)
-    inside-alike x _ l = gap-read 4294967295 (rowAt b) m (gap-row b lo x f (omega (arith, s .before)))
+    inside-alike x _ l = gap-read 4294967295 (rowAt b) m (gap-row b lo x (omega (arith, q .fits)) (omega (arith, s .before)))
 
 module _ {a : List ℕ} {n : ℕ} {b : List ℕ} {m lo hi : ℕ} (p : Ruled a n) (q : Ruled b m) (f : GapsFrom (rowAt b) m lo) (g : GapsTo 4294967295 (rowAt b) m hi) where
   pub walk-gaps : {most : ℕ} {out : List ℕ} → 2 * most ≤ length out → Walk a n (gaps 4294967295 (rowAt b) m lo) (hi - lo) (Gap b m lo) most (length out) out 0 0 0 n (hi - lo) most

@@ -10,7 +10,7 @@ use Rattle.tables.specs.Inner.Sweep.{Holds}
 use Rattle.tables.specs.Inner.Edit.{Plain, Moved}
 use Rattle.tables.specs.Inner.Unite.{Passed}
 use Rattle.tables.specs.Inner.Cross.{Keeps}
-use Rattle.tables.specs.Inner.Ends.{Stores, Dropped, Raised, Turns, Inside, Below, Above, Halves}
+use Rattle.tables.specs.Inner.Ends.{Stores, Dropped, Raised, Turns, Below, Above, Halves}
 use Rattle.varint.proofs.Cases.{split}
 use Rattle.tables.proofs.Joining.{at-here, at-past, at-below, at-top, Built, combination, piece}
 use Rattle.tables.proofs.Spanning.{spanned, length-span, span-cons, span-none, span-same, push-adds}
@@ -115,16 +115,6 @@ turns-less g h s r =
     let a = below-few s in
     let b = above-few r in
     record { left = omega (arith, g .left, a .0, b .1); right = omega (arith, g .right, a .1, b .3); room = omega (arith, g .room, a .2, b .4) }
-
--- and stays between the rows
-pub inside-less : {m lo c i j k p e q f i′ j′ k′ u v t p₂ e₂ q₂ f₂ u′ v′ t′ room : ℕ} {row row′ row₂ : ℕ → Row} → Inside m lo c i j k u v t → 0 < c
-    → Below room row i j k p e q f row′ i′ j′ k′ → Above row′ u v t p₂ e₂ q₂ f₂ row₂ u′ v′ t′ → Inside m lo (c - 1) i′ j′ k′ u′ v′ t′
-inside-less {e = e} {f = f} g h s r =
-    record {
-      turns = turns-less (g .turns) h s r;
-      behind = ⊎-elim (λ l. omega (arith, g .behind, s .two .off l)) (λ l. omega (arith, g .behind, s .two .on l)) (split (min e f) f);
-      before = omega (arith, g .before, above-few r .2);
-    }
 
 -- a piece behind a gap is a row of its own
 push-apart : (lo w : ℕ) (rs : Rows) (s e : ℕ) → JoinedFrom lo w rs → top rs ≤ s → ((z : ℕ) → suc z ≡ s → at rs z ≡ 0) → push rs s e 1 ≡ rs ++ (piece s e 1 ∷ [])

@@ -5,7 +5,7 @@ use mathlib.Core.List.{List}
 use Prim.Native.Nat.{ℕ, _+_, _-_}
 use native.Mathlib.Omega.{arith}
 use lib.ListN.{length}
-use Rattle.tables.proofs.Gaps.{gaps, gap-read, gaps-few, gaps-order}
+use Rattle.tables.proofs.Gaps.{gaps, gap-read, gaps-order}
 use Rattle.tables.proofs.Meeting.{above-less}
 use Rattle.ranges.specs.declared.Low.{Low}
 use Rattle.ranges.specs.declared.High.{High}
@@ -124,7 +124,7 @@ sub-sweep : tie.Need-sub-sweep Inv-loop μ-loop Inv-loop2 μ-loop2
 sub-sweep c = let t : Turn = search in omega (arith, (t .before .turns-inside .ensures (t .if3 .taken)) .behind)
 
 sub-sweep-2 : tie.Need-sub-sweep-2 Inv-loop μ-loop Inv-loop2 μ-loop2
-sub-sweep-2 c = let t : Turn = search in omega (arith, (t .before .turns-inside .ensures (t .if3 .taken)) .behind, (t .before .turns-inside .ensures (t .if3 .taken)) .turns .right)
+sub-sweep-2 c = let t : Turn = search in omega (arith, inside-first (t .before .turns-inside .ensures (t .if3 .taken)))
 
 mul-sweep : tie.Need-mul-sweep Inv-loop μ-loop Inv-loop2 μ-loop2
 mul-sweep c = let l : tie.At-loop Inv-loop μ-loop Inv-loop2 μ-loop2 = search in omega (arith, l .before .before .gaps-from .ensures .few)
@@ -136,7 +136,7 @@ mul-sweep-2 : tie.Need-mul-sweep-2 Inv-loop μ-loop Inv-loop2 μ-loop2
 mul-sweep-2 c = let l : tie.At-loop Inv-loop μ-loop Inv-loop2 μ-loop2 = search in omega (arith, l .before .before .gaps-from .ensures .few)
 
 sub-sweep-3 : tie.Need-sub-sweep-3 Inv-loop μ-loop Inv-loop2 μ-loop2
-sub-sweep-3 c = let t : Turn = search in let r : Rest = search in let s = start-of r in inside-starts (t .before .turns-inside .ensures (t .if3 .taken)) (s .args .b .now) (omega (arith, s .pre .1 .0 .fits))
+sub-sweep-3 c = let t : Turn = search in let r : Rest = search in inside-starts (t .before .turns-inside .ensures (t .if3 .taken)) (start-of r .pre .1 .0)
 
 part-sweep-start : tie.Need-part-sweep-start Inv-loop μ-loop Inv-loop2 μ-loop2
 part-sweep-start c = let h = sub-sweep-3 c in search needs
@@ -145,67 +145,68 @@ part-sweep-end : tie.Need-part-sweep-end Inv-loop μ-loop Inv-loop2 μ-loop2
 part-sweep-end c = let h = sub-sweep-3 c in search needs
 
 sweep-requires : tie.Need-sweep-requires Inv-loop μ-loop Inv-loop2 μ-loop2
-sweep-requires c κs = 
+sweep-requires c κs =
     let t : Turn = search in
     let u : tie.After-up Inv-loop μ-loop Inv-loop2 μ-loop2 = search in
     let r : Rest = search in
-    let s = start-of r in
-    let o = (t .before .turns-inside .ensures (t .if3 .taken)) in
+    let q = start-of r .pre .1 .0 in
+    let o = t .before .turns-inside .ensures (t .if3 .taken) in
     let v = rest-more (r .before .before .loop2 .inv) (r .before .between .ensures) (r .if2 .taken) {out′ = u .up .last .0} (u .before .before .before .row-at2 .ensures) (gap-read _ _ _ (u .before .gap-at2 .ensures)) (u .up .ensures) (u .up .kept .0) in
-    walk-fit v (t .if3 .taken) (inside-turns o) (inside-fits o (s .args .b .now) (omega (arith, s .pre .1 .0 .fits)) (s .pre .1 .0 .few))
+    walk-fit v (t .if3 .taken) (inside-turns o) (inside-fits o q)
 
 add-t31 : tie.Need-add-t31 Inv-loop μ-loop Inv-loop2 μ-loop2
-add-t31 c = 
+add-t31 c =
     let d : tie.After-sweep Inv-loop μ-loop Inv-loop2 μ-loop2 = search in
     let t : Turn = search in
     let u : tie.After-up Inv-loop μ-loop Inv-loop2 μ-loop2 = search in
     let r : Rest = search in
-    let s = start-of r in
-    let o = (t .before .turns-inside .ensures (t .if3 .taken)) in
+    let q = start-of r .pre .1 .0 in
+    let o = t .before .turns-inside .ensures (t .if3 .taken) in
     let v = rest-more (r .before .before .loop2 .inv) (r .before .between .ensures) (r .if2 .taken) {out′ = u .up .last .0} (u .before .before .before .row-at2 .ensures) (gap-read _ _ _ (u .before .gap-at2 .ensures)) (u .up .ensures) (u .up .kept .0) in
-    omega (arith, walk-last (walk-swept v (d .sweep .last .1 .1 .0) 1 (d .sweep .ensures) (inside-alike o (s .args .b .now) (omega (arith, s .pre .1 .0 .fits))) (inside-turns o) (inside-first o) (d .sweep .kept .1 .1 .0) .walk), walk-swept v (d .sweep .last .1 .1 .0) 1 (d .sweep .ensures) (inside-alike o (s .args .b .now) (omega (arith, s .pre .1 .0 .fits))) (inside-turns o) (inside-first o) (d .sweep .kept .1 .1 .0) .order)
+    let g = walk-swept v (d .sweep .last .1 .1 .0) 1 (d .sweep .ensures) (inside-alike o q) (inside-turns o) (inside-first o) (d .sweep .kept .1 .1 .0) in
+    omega (arith, walk-last (g .walk), g .order)
 
 add-t35 : tie.Need-add-t35 Inv-loop μ-loop Inv-loop2 μ-loop2
-add-t35 c = 
+add-t35 c =
     let d : tie.After-sweep Inv-loop μ-loop Inv-loop2 μ-loop2 = search in
     let t : Turn = search in
     let u : tie.After-up Inv-loop μ-loop Inv-loop2 μ-loop2 = search in
     let r : Rest = search in
-    let s = start-of r in
-    let o = (t .before .turns-inside .ensures (t .if3 .taken)) in
+    let q = start-of r .pre .1 .0 in
+    let o = t .before .turns-inside .ensures (t .if3 .taken) in
     let v = rest-more (r .before .before .loop2 .inv) (r .before .between .ensures) (r .if2 .taken) {out′ = u .up .last .0} (u .before .before .before .row-at2 .ensures) (gap-read _ _ _ (u .before .gap-at2 .ensures)) (u .up .ensures) (u .up .kept .0) in
-    omega (arith, walk-last (walk-swept v (d .sweep .last .1 .1 .0) 1 (d .sweep .ensures) (inside-alike o (s .args .b .now) (omega (arith, s .pre .1 .0 .fits))) (inside-turns o) (inside-first o) (d .sweep .kept .1 .1 .0) .walk))
+    omega (arith, walk-last (walk-swept v (d .sweep .last .1 .1 .0) 1 (d .sweep .ensures) (inside-alike o q) (inside-turns o) (inside-first o) (d .sweep .kept .1 .1 .0) .walk))
 
 loop2-less : tie.Need-loop2-less Inv-loop μ-loop Inv-loop2 μ-loop2
-loop2-less c = 
+loop2-less c =
     let d : tie.After-sweep Inv-loop μ-loop Inv-loop2 μ-loop2 = search in
     let t : Turn = search in
     let u : tie.After-up Inv-loop μ-loop Inv-loop2 μ-loop2 = search in
     let r : Rest = search in
-    let s = start-of r in
-    let o = (t .before .turns-inside .ensures (t .if3 .taken)) in
+    let q = start-of r .pre .1 .0 in
+    let o = t .before .turns-inside .ensures (t .if3 .taken) in
     let v = rest-more (r .before .before .loop2 .inv) (r .before .between .ensures) (r .if2 .taken) {out′ = u .up .last .0} (u .before .before .before .row-at2 .ensures) (gap-read _ _ _ (u .before .gap-at2 .ensures)) (u .up .ensures) (u .up .kept .0) in
-    omega (arith, walk-swept v (d .sweep .last .1 .1 .0) 1 (d .sweep .ensures) (inside-alike o (s .args .b .now) (omega (arith, s .pre .1 .0 .fits))) (inside-turns o) (inside-first o) (d .sweep .kept .1 .1 .0) .less, rest-less (r .before .between .ensures) (r .if2 .taken) (u .up .ensures))
+    omega (arith, walk-swept v (d .sweep .last .1 .1 .0) 1 (d .sweep .ensures) (inside-alike o q) (inside-turns o) (inside-first o) (d .sweep .kept .1 .1 .0) .less, rest-less (r .before .between .ensures) (r .if2 .taken) (u .up .ensures))
 
 loop2-again : tie.Need-loop2-again Inv-loop μ-loop Inv-loop2 μ-loop2
-loop2-again c = 
+loop2-again c =
     let d : tie.After-sweep Inv-loop μ-loop Inv-loop2 μ-loop2 = search in
     let t : Turn = search in
     let u : tie.After-up Inv-loop μ-loop Inv-loop2 μ-loop2 = search in
     let r : Rest = search in
-    let s = start-of r in
-    let o = (t .before .turns-inside .ensures (t .if3 .taken)) in
+    let q = start-of r .pre .1 .0 in
+    let o = t .before .turns-inside .ensures (t .if3 .taken) in
     let v = rest-more (r .before .before .loop2 .inv) (r .before .between .ensures) (r .if2 .taken) {out′ = u .up .last .0} (u .before .before .before .row-at2 .ensures) (gap-read _ _ _ (u .before .gap-at2 .ensures)) (u .up .ensures) (u .up .kept .0) in
-    walk-swept v (d .sweep .last .1 .1 .0) 1 (d .sweep .ensures) (inside-alike o (s .args .b .now) (omega (arith, s .pre .1 .0 .fits))) (inside-turns o) (inside-first o) (d .sweep .kept .1 .1 .0) .walk
+    walk-swept v (d .sweep .last .1 .1 .0) 1 (d .sweep .ensures) (inside-alike o q) (inside-turns o) (inside-first o) (d .sweep .kept .1 .1 .0) .walk
 
 loop2-less-2 : tie.Need-loop2-less-2 Inv-loop μ-loop Inv-loop2 μ-loop2
-loop2-less-2 c = 
+loop2-less-2 c =
     let u : tie.After-up Inv-loop μ-loop Inv-loop2 μ-loop2 = search in
     let r : Rest = search in
     rest-less (r .before .between .ensures) (r .if2 .taken) (u .up .ensures)
 
 loop2-again-2 : tie.Need-loop2-again-2 Inv-loop μ-loop Inv-loop2 μ-loop2
-loop2-again-2 c = 
+loop2-again-2 c =
     let u : tie.After-up Inv-loop μ-loop Inv-loop2 μ-loop2 = search in
     let r : Rest = search in
     rest-more (r .before .before .loop2 .inv) (r .before .between .ensures) (r .if2 .taken) (u .before .before .before .row-at2 .ensures) (gap-read _ _ _ (u .before .gap-at2 .ensures)) (u .up .ensures) (u .up .kept .0)

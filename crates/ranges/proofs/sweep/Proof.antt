@@ -5,7 +5,6 @@ use lib.ListN.{length}
 use Rattle.tables.proofs.Turning.{Underway, underway-none, underway-more, underway-all}
 use Rattle.ranges.specs.Inner.{rowAt, places, Fit}
 use Rattle.ranges.proofs.Walking.{fit-rows, fit-up, fit-last, fit-rows-above, fit-down, fit-less}
-use borrow.Author.Needs.{needs}
 use Rattle.ranges.proofs.sweep.Statement.{statement}
 use Rattle.ranges.proofs.sweep.Tie as tie
 
