@@ -13,11 +13,11 @@ use Rattle.tables.specs.Inner.Rows as inner
 use Rattle.tables.specs.Inner.Rows.{combined, difference, intersection, span}
 use Rattle.tables.specs.Inner.Sweep.{Holds}
 use Rattle.tables.specs.Inner.Edit.{Plain}
-use Rattle.tables.specs.Inner.Ends.{Turns, Inside, Below, Above, Swept, Halves, GapsFrom, GapsTo}
+use Rattle.tables.specs.Inner.Ends.{Turns, Inside, Below, Above, Places, Swept, Halves, GapsFrom, GapsTo}
 use Rattle.tables.proofs.Uniting.{holds-other}
 use Rattle.tables.proofs.Gaps.{gaps, gaps-plain, gaps-combined, gap-read}
 use Rattle.tables.proofs.Meeting.{Meeting, meeting-none, meeting-top, meeting-rest, meeting-halves, below-few, below-within, below-less, above-few, above-lower, turns-less}
-use Rattle.tables.proofs.Turning.{Read, Alike, alike-all, swept-after}
+use Rattle.tables.proofs.Turning.{Read, Alike, alike-all, Went, swept-went, swept-met}
 use Rattle.ranges.specs.declared.Low.{Low}
 use Rattle.ranges.specs.declared.High.{High}
 use Rattle.ranges.specs.Inner.{rowAt, rowsOf, Ruled, Fit}
@@ -46,6 +46,13 @@ pub record StepAbove (a : List ℕ) (Asks : ℕ → Type 0) (u v : ℕ) : Type 0
   pub row : 2 * (u - 1) + 1 < length a
   pub asks : Asks (v - 1)
 
+-- none more need fit behind the last turn
+turns-all : {c i j k u v t : ℕ} → Turns c i j k u v t → Turns (c + 0) i j k u v t
+turns-all s = record { left = omega (arith, s .left); right = omega (arith, s .right); room = omega (arith, s .room) }
+
+pub went-all : {ra rb : ℕ → inner.Row} {c : ℕ} {x y : Places} → Swept ra rb x c y → Turns c (x .i) (x .j) (x .k) (x .u) (x .v) (x .t) → Went c 0 x y
+went-all p s = swept-went 0 p (turns-all s)
+
 -- of the gaps of b from lo on: what a look at one asks
 abbrev pub Gap : List ℕ → ℕ → ℕ → ℕ → Type 0
 Gap b m lo j = (2 * m ≤ length b) × (lo + j ≤ m)
@@ -73,12 +80,6 @@ module _ {a : List ℕ} {n : ℕ} {rb : ℕ → inner.Row} {m : ℕ} {Asks : ℕ
 
     pub walk-halves : {on : Bool} → Says ((i < u) × (j < v)) on → on ≡ false → Halves most (rowAt out) k t (combined intersection (rowsOf a n) (span rb 0 m))
     walk-halves s e = meeting-halves _ _ _ _ _ (ruled-plain (w .one)) (w .two) (s .wrong e) (w .met)
-
-    -- after c turns
-    pub record Gone (c i′ j′ k′ u′ v′ t′ : ℕ) (out′ : List ℕ) : Type 0 where
-      pub walk : Walk a n rb m Asks most len out′ i′ j′ k′ u′ v′ t′
-      pub less : (u′ + v′) - (i′ + j′) + c ≤ (u + v) - (i + j)
-      pub order : (i′ ≤ u′) × ((j′ ≤ v′) × (k′ ≤ t′))
 
     step : (i < u) × (j < v) → Step a Asks out i j k t
     step h =
@@ -128,24 +129,20 @@ module _ {a : List ℕ} {n : ℕ} {rb : ℕ → inner.Row} {m : ℕ} {Asks : ℕ
           room = (omega (arith, w .room, w .same, w .met .within), omega (arith, w .one .few, w .few, s .left, w .met .right, w .met .one .within, w .met .two .within, w .met .crossed .few));
         }
 
-    -- and over rows that are counted from d on
+    -- and what they lay over rows that are counted from d on is right
     pub walk-swept : (out′ : List ℕ) (d : ℕ) {read : ℕ → inner.Row} {c j₀ v₀ i′ j₁ k′ u′ v₁ t′ : ℕ}
         → Swept (rowAt a) read (record { laid = rowAt out; i = i; j = j₀; k = k; u = u; v = v₀; t = t }) c (record { laid = rowAt out′; i = i′; j = j₁; k = k′; u = u′; v = v₁; t = t′ })
-        → Alike rb d read j₀ v₀ → Turns c i j₀ k u v₀ t → (j ≡ d + j₀) × (v ≡ d + v₀) → length out′ ≡ length out → Gone c i′ (d + j₁) k′ u′ (d + v₁) t′ out′
+        → Alike rb d read j₀ v₀ → Turns c i j₀ k u v₀ t → (j ≡ d + j₀) × (v ≡ d + v₀) → length out′ ≡ length out → Walk a n rb m Asks most len out′ i′ (d + j₁) k′ u′ (d + v₁) t′
     walk-swept out′ d p same s e l =
-        let r = swept-after (rowAt a) n rb m most (ruled-plain (w .one)) (w .two) d _ 0 p same (record { left = omega (arith, s .left); right = omega (arith, s .right); room = omega (arith, s .room) })
-        (subst₂ (λ (x y : ℕ). Meeting (rowAt a) n i u rb m x y most (rowAt out) k t) (e .0) (e .1) (w .met)) in
-        record {
-          walk = walk-to l (r .met);
-          less = omega (arith, r .less, e .0, e .1, s .left, s .right);
-          order = (omega (arith, r .fits .left), (omega (arith, r .fits .right), omega (arith, r .fits .room)));
-        }
+        walk-to l (swept-met (rowAt a) n rb m most (ruled-plain (w .one)) (w .two) d _ 0 p same (turns-all s)
+        (subst₂ (λ (x y : ℕ). Meeting (rowAt a) n i u rb m x y most (rowAt out) k t) (e .0) (e .1) (w .met)))
 
     pub walk-swept-all : (out′ : List ℕ) {c i′ j′ k′ u′ v′ t′ : ℕ}
         → Swept (rowAt a) rb (record { laid = rowAt out; i = i; j = j; k = k; u = u; v = v; t = t }) c (record { laid = rowAt out′; i = i′; j = j′; k = k′; u = u′; v = v′; t = t′ })
-        → Turns c i j k u v t → length out′ ≡ length out → Gone c i′ j′ k′ u′ v′ t′ out′
+        → Turns c i j k u v t → length out′ ≡ length out → Walk a n rb m Asks most len out′ i′ j′ k′ u′ v′ t′
     walk-swept-all out′ {c} {i′} {j′} {k′} {u′} {v′} {t′} p s l =
-        subst₂ (λ (x y : ℕ). Gone c i′ x k′ u′ y t′ out′) (let q : 0 + j′ ≡ j′ = omega arith in q) (let q : 0 + v′ ≡ v′ = omega arith in q) (walk-swept out′ 0 p (alike-all rb) s (omega arith, omega arith) l)
+        subst₂ (λ (x y : ℕ). Walk a n rb m Asks most len out′ i′ x k′ u′ y t′) (let q : 0 + j′ ≡ j′ = omega arith in q) (let q : 0 + v′ ≡ v′ = omega arith in q)
+        (walk-swept out′ 0 p (alike-all rb) s (omega arith, omega arith) l)
 
     -- ## And of the one from below alone
 
@@ -204,6 +201,13 @@ module _ {m lo c i j k u v t : ℕ} (s : Inside m lo c i j k u v t) where
 
   pub inside-turns : Turns c i (j - 1) k u (v - 1) t
   inside-turns = record { left = s .turns .left; right = omega (arith, s .behind, s .turns .right); room = s .turns .room }
+
+  pub inside-less : {laid : ℕ → inner.Row} {y : Places} → Went c 0 (record { laid = laid; i = i; j = j - 1; k = k; u = u; v = v - 1; t = t }) y
+      → (y .u + (1 + y .v)) - (y .i + (1 + y .j)) ≤ (u + v) - (i + j)
+  inside-less {y = y} g =
+      let l : (y .u + (1 + y .v)) - (y .i + (1 + y .j)) ≡ (y .u + y .v) - (y .i + y .j) = omega arith in
+      let r : (u + (v - 1)) - (i + (j - 1)) ≡ (u + v) - (i + j) = omega (arith, s .behind, s .turns .right) in
+      omega (arith, l, r, g .less)
 
   module _ {b : List ℕ} (q : Ruled b m) where
     pub inside-starts : 2 * lo + 1 ≤ length b

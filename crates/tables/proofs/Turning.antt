@@ -58,44 +58,45 @@ below-shift d s = record { one = s .one; two = record { on = λ h. omega (arith,
 above-shift : (d : ℕ) {u v t p e q f u′ v′ t′ : ℕ} {row row′ : ℕ → Row} → 0 < v → Above row u v t p e q f row′ u′ v′ t′ → Above row u (d + v) t p e q f row′ u′ (d + v′) t′
 above-shift d h s = record { one = s .one; two = record { on = λ g. omega (arith, h, s .two .on g); off = λ g. omega (arith, s .two .off g) }; raised = s .raised; stores = s .stores }
 
+-- c turns from x to y, where e more fit: how far they went
+pub record Went (c e : ℕ) (x y : Places) : Type 0 where
+  pub fits : Fits e y
+  pub behind : x .j ≤ y .j
+  pub before2 : y .v ≤ x .v
+  pub less : left y + c ≤ left x
+
+pub swept-went : {ra rb : ℕ → Row} {c : ℕ} {x y : Places} (e : ℕ) → Swept ra rb x c y → Fits (c + e) x → Went c e x y
+swept-went e none f = record { fits = record { left = omega (arith, f .left); right = omega (arith, f .right); room = omega (arith, f .room) }; behind = omega arith; before2 = omega arith; less = omega arith }
+swept-went e (more c y z s t) f =
+    let p = swept-went (suc e) s (record { left = omega (arith, f .left); right = omega (arith, f .right); room = omega (arith, f .room) }) in
+    let g : 0 < suc e = omega arith in
+    let w = turns-less (p .fits) g (t .below) (t .above) in
+    record {
+      fits = record { left = omega (arith, w .left); right = omega (arith, w .right); room = omega (arith, w .room) };
+      behind = omega (arith, p .behind, below-rises (t .below));
+      before2 = omega (arith, p .before2, above-few (t .above) .2);
+      less = omega (arith, p .less, meeting-less (p .fits) g (t .below) (t .above));
+    }
+
 module _ (ra : ℕ → Row) (n : ℕ) (rb : ℕ → Row) (m most : ℕ) (ta : Plain ra n) (tb : Plain rb m) (d : ℕ) (read : ℕ → Row) where
   abbrev Met : Places → Type 0
   Met x = Meeting ra n (x .i) (x .u) rb m (d + x .j) (d + x .v) most (x .laid) (x .k) (x .t)
 
-  -- after c turns from x on, where e more fit
-  pub record After (c e : ℕ) (x y : Places) : Type 0 where
-    pub fits : Fits e y
-    pub behind : x .j ≤ y .j
-    pub before2 : y .v ≤ x .v
-    pub less : left y + c ≤ left x
-    pub met : Met y
-
-  after-none : {e : ℕ} {x : Places} → Fits e x → Met x → After 0 e x x
-  after-none f g = record { fits = f; behind = omega arith; before2 = omega arith; less = omega arith; met = g }
-
-  after-more : {c e : ℕ} {x y z : Places} → Alike rb d read (x .j) (x .v) → After c (suc e) x y → Turned ra read y z → After (suc c) e x z
-  after-more {c} {e} {x} {y} {z} same p t =
+  met-more : {c e : ℕ} {x y z : Places} → Alike rb d read (x .j) (x .v) → Went c (suc e) x y → Turned ra read y z → Met y → Met z
+  met-more {x = x} {y} {z} same p t g =
       let f = p .fits in
-      let g : 0 < suc e = omega arith in
-      let l : y .j < y .v = omega (arith, f .right) in
-      let w = turns-less f g (t .below) (t .above) in
-      record {
-        fits = record { left = omega (arith, w .left); right = omega (arith, w .right); room = omega (arith, w .room) };
-        behind = omega (arith, p .behind, below-rises (t .below));
-        before2 = omega (arith, p .before2, above-few (t .above) .2);
-        less = omega (arith, p .less, meeting-less f g (t .below) (t .above));
-        met = meeting-turn ra n rb m most ta tb
-            record { left = f .left; right = omega (arith, f .right); room = f .room } g
-            (refl, refl) (same (y .j) (p .behind) (omega (arith, p .before2)))
-            (below-shift d (below-room (omega (arith, f .room)) (t .below)))
-            (refl, refl) (let s = same (y .v - 1) (omega (arith, p .behind)) (omega (arith, p .before2)) in
-            let q : d + (y .v - 1) ≡ d + y .v - 1 = omega arith in
-            (s .0 ∙ ap (λ (x : ℕ). rb x .start) q, s .1 ∙ ap (λ (x : ℕ). rb x .end) q))
-            (above-shift d (omega arith) (t .above)) (p .met);
-      }
+      meeting-turn ra n rb m most ta tb
+      record { left = f .left; right = omega (arith, f .right); room = f .room } (omega arith)
+      (refl, refl) (same (y .j) (p .behind) (omega (arith, f .right, p .before2)))
+      (below-shift d (below-room (omega (arith, f .room)) (t .below)))
+      (refl, refl) (let s = same (y .v - 1) (omega (arith, f .right, p .behind)) (omega (arith, f .right, p .before2)) in
+      let q : d + (y .v - 1) ≡ d + y .v - 1 = omega (arith, f .right) in
+      (s .0 ∙ ap (λ (x : ℕ). rb x .start) q, s .1 ∙ ap (λ (x : ℕ). rb x .end) q))
+      (above-shift d (omega (arith, f .right)) (t .above)) g
 
-  -- C TURNS: both walks went on, and what they laid is right
-  pub swept-after : {c : ℕ} {x y : Places} (e : ℕ) → Swept ra read x c y → Alike rb d read (x .j) (x .v) → Fits (c + e) x → Met x → After c e x y
-  swept-after e none same f g = after-none (record { left = omega (arith, f .left); right = omega (arith, f .right); room = omega (arith, f .room) }) g
-  swept-after e (more c _ _ s t) same f g =
-      after-more same (swept-after (suc e) s same (record { left = omega (arith, f .left); right = omega (arith, f .right); room = omega (arith, f .room) }) g) t
+  -- C TURNS: what the walks laid is right
+  pub swept-met : {c : ℕ} {x y : Places} (e : ℕ) → Swept ra read x c y → Alike rb d read (x .j) (x .v) → Fits (c + e) x → Met x → Met y
+  swept-met e none same f g = g
+  swept-met {x = x} e (more c y z s t) same f g =
+      let h : Fits (c + suc e) x = record { left = omega (arith, f .left); right = omega (arith, f .right); room = omega (arith, f .room) } in
+      met-more same (swept-went (suc e) s h) t (swept-met (suc e) s same h g)

@@ -6,7 +6,7 @@ use lib.ListN.{length}
 use Rattle.tables.specs.Inner.Ends.{Turns}
 use Rattle.ranges.specs.Inner.{rowAt}
 use Rattle.ranges.proofs.Editing.{ruled-plain}
-use Rattle.ranges.proofs.Walking.{Walk, walk-none, walk-on, walk-settle, walk-halves, walk-fit, walk-swept-all, rest-step, rest-more, rest-less}
+use Rattle.ranges.proofs.Walking.{Walk, walk-none, walk-on, walk-settle, walk-halves, walk-fit, walk-swept-all, went-all, rest-step, rest-more, rest-less}
 use borrow.Author.Needs.{needs}
 use Rattle.ranges.proofs.cross.Statement.{statement}
 use Rattle.ranges.proofs.cross.Tie as tie
@@ -47,22 +47,21 @@ turns-requires-2 : tie.Need-turns-requires-2 Inv-loop μ-loop Inv-loop2 μ-loop2
 turns-requires-2 c κs =
     let d : tie.After-sweep Inv-loop μ-loop Inv-loop2 μ-loop2 = search in
     let t : Turn = search in
-    let v = t .before .loop .inv in
-    walk-swept-all (v .0) (d .sweep .last .1 .1 .0) (d .sweep .ensures) (v .1) (d .sweep .kept .1 .1 .0) .order
+    let f = went-all (d .sweep .ensures) (t .before .loop .inv .1) .fits in
+    (omega (arith, f .left), (omega (arith, f .right), omega (arith, f .room)))
 
 loop-less : tie.Need-loop-less Inv-loop μ-loop Inv-loop2 μ-loop2
 loop-less c =
     let d : tie.After-sweep Inv-loop μ-loop Inv-loop2 μ-loop2 = search in
     let t : Turn = search in
-    let v = t .before .loop .inv in
-    omega (arith, t .loop-test .taken, walk-swept-all (v .0) (d .sweep .last .1 .1 .0) (d .sweep .ensures) (v .1) (d .sweep .kept .1 .1 .0) .less)
+    omega (arith, t .loop-test .taken, went-all (d .sweep .ensures) (t .before .loop .inv .1) .less)
 
 loop-again : tie.Need-loop-again Inv-loop μ-loop Inv-loop2 μ-loop2
 loop-again c =
     let d : tie.After-sweep Inv-loop μ-loop Inv-loop2 μ-loop2 = search in
     let t : Turn = search in
     let v = t .before .loop .inv in
-    (walk-swept-all (v .0) (d .sweep .last .1 .1 .0) (d .sweep .ensures) (v .1) (d .sweep .kept .1 .1 .0) .walk, c .turns2 .ensures)
+    (walk-swept-all (v .0) (d .sweep .last .1 .1 .0) (d .sweep .ensures) (v .1) (d .sweep .kept .1 .1 .0), c .turns2 .ensures)
 
 loop2-holds : tie.Need-loop2-holds Inv-loop μ-loop Inv-loop2 μ-loop2
 loop2-holds c = walk-on (c .before .loop .inv .0)

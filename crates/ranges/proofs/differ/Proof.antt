@@ -10,7 +10,7 @@ use Rattle.tables.proofs.Meeting.{above-less}
 use Rattle.ranges.specs.declared.Low.{Low}
 use Rattle.ranges.specs.declared.High.{High}
 use Rattle.ranges.specs.Inner.{rowAt}
-use Rattle.ranges.proofs.Walking.{Walk, Gap, walk-gaps, gaps-differ, walk-on, walk-last, walk-settle, walk-halves, walk-fit, walk-swept, top-above, top-down, top-more, rest-step, rest-more, rest-within, rest-less, inside-first, inside-turns, inside-starts, inside-fits, inside-alike}
+use Rattle.ranges.proofs.Walking.{Walk, Gap, walk-gaps, gaps-differ, walk-on, walk-last, walk-settle, walk-halves, walk-fit, walk-swept, went-all, top-above, top-down, top-more, rest-step, rest-more, rest-within, rest-less, inside-first, inside-turns, inside-less, inside-starts, inside-fits, inside-alike}
 use borrow.Author.Needs.{needs}
 use Rattle.ranges.proofs.differ.Statement.{statement}
 use Rattle.ranges.proofs.differ.Tie as tie
@@ -160,11 +160,8 @@ add-t31 c =
     let t : Turn = search in
     let u : tie.After-up Inv-loop μ-loop Inv-loop2 μ-loop2 = search in
     let r : Rest = search in
-    let q = start-of r .pre .1 .0 in
-    let o = t .before .turns-inside .ensures (t .if3 .taken) in
-    let v = rest-more (r .before .before .loop2 .inv) (r .before .between .ensures) (r .if2 .taken) {out′ = u .up .last .0} (u .before .before .before .row-at2 .ensures) (gap-read _ _ _ (u .before .gap-at2 .ensures)) (u .up .ensures) (u .up .kept .0) in
-    let g = walk-swept v (d .sweep .last .1 .1 .0) 1 (d .sweep .ensures) (inside-alike o q) (inside-turns o) (inside-first o) (d .sweep .kept .1 .1 .0) in
-    omega (arith, walk-last (g .walk), g .order)
+    let g = went-all (d .sweep .ensures) (inside-turns (t .before .turns-inside .ensures (t .if3 .taken))) in
+    omega (arith, g .fits .right, g .before2, walk-last (r .before .before .loop2 .inv))
 
 add-t35 : tie.Need-add-t35 Inv-loop μ-loop Inv-loop2 μ-loop2
 add-t35 c =
@@ -172,10 +169,7 @@ add-t35 c =
     let t : Turn = search in
     let u : tie.After-up Inv-loop μ-loop Inv-loop2 μ-loop2 = search in
     let r : Rest = search in
-    let q = start-of r .pre .1 .0 in
-    let o = t .before .turns-inside .ensures (t .if3 .taken) in
-    let v = rest-more (r .before .before .loop2 .inv) (r .before .between .ensures) (r .if2 .taken) {out′ = u .up .last .0} (u .before .before .before .row-at2 .ensures) (gap-read _ _ _ (u .before .gap-at2 .ensures)) (u .up .ensures) (u .up .kept .0) in
-    omega (arith, walk-last (walk-swept v (d .sweep .last .1 .1 .0) 1 (d .sweep .ensures) (inside-alike o q) (inside-turns o) (inside-first o) (d .sweep .kept .1 .1 .0) .walk))
+    omega (arith, went-all (d .sweep .ensures) (inside-turns (t .before .turns-inside .ensures (t .if3 .taken))) .before2, walk-last (r .before .before .loop2 .inv))
 
 loop2-less : tie.Need-loop2-less Inv-loop μ-loop Inv-loop2 μ-loop2
 loop2-less c =
@@ -183,10 +177,8 @@ loop2-less c =
     let t : Turn = search in
     let u : tie.After-up Inv-loop μ-loop Inv-loop2 μ-loop2 = search in
     let r : Rest = search in
-    let q = start-of r .pre .1 .0 in
     let o = t .before .turns-inside .ensures (t .if3 .taken) in
-    let v = rest-more (r .before .before .loop2 .inv) (r .before .between .ensures) (r .if2 .taken) {out′ = u .up .last .0} (u .before .before .before .row-at2 .ensures) (gap-read _ _ _ (u .before .gap-at2 .ensures)) (u .up .ensures) (u .up .kept .0) in
-    omega (arith, walk-swept v (d .sweep .last .1 .1 .0) 1 (d .sweep .ensures) (inside-alike o q) (inside-turns o) (inside-first o) (d .sweep .kept .1 .1 .0) .less, rest-less (r .before .between .ensures) (r .if2 .taken) (u .up .ensures))
+    omega (arith, inside-less o (went-all (d .sweep .ensures) (inside-turns o)), rest-less (r .before .between .ensures) (r .if2 .taken) (u .up .ensures))
 
 loop2-again : tie.Need-loop2-again Inv-loop μ-loop Inv-loop2 μ-loop2
 loop2-again c =
@@ -194,10 +186,9 @@ loop2-again c =
     let t : Turn = search in
     let u : tie.After-up Inv-loop μ-loop Inv-loop2 μ-loop2 = search in
     let r : Rest = search in
-    let q = start-of r .pre .1 .0 in
     let o = t .before .turns-inside .ensures (t .if3 .taken) in
     let v = rest-more (r .before .before .loop2 .inv) (r .before .between .ensures) (r .if2 .taken) {out′ = u .up .last .0} (u .before .before .before .row-at2 .ensures) (gap-read _ _ _ (u .before .gap-at2 .ensures)) (u .up .ensures) (u .up .kept .0) in
-    walk-swept v (d .sweep .last .1 .1 .0) 1 (d .sweep .ensures) (inside-alike o q) (inside-turns o) (inside-first o) (d .sweep .kept .1 .1 .0) .walk
+    walk-swept v (d .sweep .last .1 .1 .0) 1 (d .sweep .ensures) (inside-alike o (start-of r .pre .1 .0)) (inside-turns o) (inside-first o) (d .sweep .kept .1 .1 .0)
 
 loop2-less-2 : tie.Need-loop2-less-2 Inv-loop μ-loop Inv-loop2 μ-loop2
 loop2-less-2 c =
