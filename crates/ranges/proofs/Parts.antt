@@ -15,12 +15,18 @@ use Rattle.tables.proofs.Joining.{row-is}
 use Rattle.ranges.specs.Inner.{rowAt}
 
 -- the elements from a on
-part-is : (l : List ℕ) (a n : ℕ) → n < length l - a → getD (midOf a (length l - a) l) n 0 ≡ getD l (a + n) 0
+abbrev pub rest-of : List ℕ → ℕ → List ℕ
+rest-of l a = midOf a (length l - a) l
+
+pub rest-length : (l : List ℕ) (a : ℕ) → length (rest-of l a) ≡ length l - a
+rest-length l a = omega (arith, length-take (length l - a) (drop a l), length-drop a l)
+
+part-is : (l : List ℕ) (a n : ℕ) → n < length l - a → getD (rest-of l a) n 0 ≡ getD l (a + n) 0
 part-is l a n h = getD-take (length l - a) (drop a l) n 0 h ∙ getD-drop a l n 0
 
 -- and those from row j on
-abbrev pub part : List ℕ → ℕ → List ℕ
-part l j = midOf (2 * j) (length l - 2 * j) l
+abbrev part : List ℕ → ℕ → List ℕ
+part l j = rest-of l (2 * j)
 
 pub row-part : (l : List ℕ) (j y : ℕ) → 2 * y + 1 < length l - 2 * j → rowAt (part l j) y ≡ rowAt l (j + y)
 row-part l j y h =
@@ -28,16 +34,9 @@ row-part l j y h =
     (part-is l (2 * j) (2 * y + 1) (omega arith) ∙ ap (λ (n : ℕ). getD l n 0) (let z : 2 * j + (2 * y + 1) ≡ 2 * (j + y) + 1 = omega arith in z))
     refl
 
--- the elements behind the start of row j
-abbrev pub inner-part : List ℕ → ℕ → List ℕ
-inner-part l j = midOf (2 * j + 1) (length l - (2 * j + 1)) l
-
-pub inner-length : (l : List ℕ) (j : ℕ) → length (inner-part l j) ≡ length l - (2 * j + 1)
-inner-length l j = omega (arith, length-take (length l - (2 * j + 1)) (drop (2 * j + 1) l), length-drop (2 * j + 1) l)
-
--- its rows are the gaps between two rows
+-- behind the start of row lo: the gaps between two rows
 pub gap-row : (l : List ℕ) (lo x : ℕ) {top m : ℕ} → 2 * m ≤ length l → lo + (1 + x) < m
-    → GapStart (rowAt l) (lo + (1 + x)) (rowAt (inner-part l lo) x .start) × GapEnd top (rowAt l) m (lo + (1 + x)) (rowAt (inner-part l lo) x .end)
+    → GapStart (rowAt l) (lo + (1 + x)) (rowAt (rest-of l (2 * lo + 1)) x .start) × GapEnd top (rowAt l) m (lo + (1 + x)) (rowAt (rest-of l (2 * lo + 1)) x .end)
 gap-row l lo x f h = (
   record {
     first = λ z. absurd (omega arith);
@@ -52,12 +51,12 @@ gap-row l lo x f h = (
 -- ## The part is lent, and other elements stand there then
 
 -- the elements from a on are lent, and ys stand there then
-module _ (l ys : List ℕ) (a : ℕ) (fits : a ≤ length l) (same : length ys ≡ length (midOf a (length l - a) l)) where
+module _ (l ys : List ℕ) (a : ℕ) (fits : a ≤ length l) (same : length ys ≡ length (rest-of l a)) where
   front : length (take a l) ≡ a
   front = omega (arith, length-take a l)
 
   pub part-length : length ys ≡ length l - a
-  part-length = omega (arith, same, length-take (length l - a) (drop a l), length-drop a l)
+  part-length = same ∙ rest-length l a
 
   put-before : (n : ℕ) → n < a → getD (putMid a (length l - a) l ys) n 0 ≡ getD l n 0
   put-before n h = List·getD-append (take a l) (ys ++ postOf a (length l - a) l) 0 n (omega (arith, front)) ∙ getD-take a l n 0 h

@@ -16,13 +16,13 @@ use Rattle.tables.specs.Inner.Edit.{Plain}
 use Rattle.tables.specs.Inner.Ends.{Turns, Inside, Below, Above, Places, Swept, Halves, GapsFrom, GapsTo}
 use Rattle.tables.proofs.Uniting.{holds-other}
 use Rattle.tables.proofs.Gaps.{gaps, gaps-plain, gaps-combined, gap-read}
-use Rattle.tables.proofs.Meeting.{Meeting, meeting-none, meeting-top, meeting-rest, meeting-halves, below-few, below-within, below-less, above-few, above-lower, turns-less}
-use Rattle.tables.proofs.Turning.{Read, Alike, alike-all, Went, swept-went, swept-met}
+use Rattle.tables.proofs.Meeting.{Read, Meeting, meeting-none, meeting-top, meeting-rest, meeting-halves, below-few, below-within, below-less, above-few, above-lower, turns-few, turns-less}
+use Rattle.tables.proofs.Turning.{Alike, alike-all, Went, swept-went, swept-met}
 use Rattle.ranges.specs.declared.Low.{Low}
 use Rattle.ranges.specs.declared.High.{High}
 use Rattle.ranges.specs.Inner.{rowAt, rowsOf, Ruled, Fit}
 use Rattle.ranges.proofs.Editing.{ruled-plain}
-use Rattle.ranges.proofs.Parts.{inner-part, inner-length, gap-row}
+use Rattle.ranges.proofs.Parts.{rest-of, rest-length, gap-row}
 
 -- Asks j is what a look at row j of the other rows asks; the output had len elements
 pub record Walk (a : List ℕ) (n : ℕ) (rb : ℕ → inner.Row) (m : ℕ) (Asks : ℕ → Type 0) (most len : ℕ) (out : List ℕ) (i j k u v t : ℕ) : Type 0 where
@@ -47,11 +47,8 @@ pub record StepAbove (a : List ℕ) (Asks : ℕ → Type 0) (u v : ℕ) : Type 0
   pub asks : Asks (v - 1)
 
 -- none more need fit behind the last turn
-turns-all : {c i j k u v t : ℕ} → Turns c i j k u v t → Turns (c + 0) i j k u v t
-turns-all s = record { left = omega (arith, s .left); right = omega (arith, s .right); room = omega (arith, s .room) }
-
 pub went-all : {ra rb : ℕ → inner.Row} {c : ℕ} {x y : Places} → Swept ra rb x c y → Turns c (x .i) (x .j) (x .k) (x .u) (x .v) (x .t) → Went c 0 x y
-went-all p s = swept-went 0 p (turns-all s)
+went-all p s = swept-went 0 p (turns-few (omega arith) s)
 
 -- of the gaps of b from lo on: what a look at one asks
 abbrev pub Gap : List ℕ → ℕ → ℕ → ℕ → Type 0
@@ -134,7 +131,7 @@ module _ {a : List ℕ} {n : ℕ} {rb : ℕ → inner.Row} {m : ℕ} {Asks : ℕ
         → Swept (rowAt a) read (record { laid = rowAt out; i = i; j = j₀; k = k; u = u; v = v₀; t = t }) c (record { laid = rowAt out′; i = i′; j = j₁; k = k′; u = u′; v = v₁; t = t′ })
         → Alike rb d read j₀ v₀ → Turns c i j₀ k u v₀ t → (j ≡ d + j₀) × (v ≡ d + v₀) → length out′ ≡ length out → Walk a n rb m Asks most len out′ i′ (d + j₁) k′ u′ (d + v₁) t′
     walk-swept out′ d p same s e l =
-        walk-to l (swept-met (rowAt a) n rb m most (ruled-plain (w .one)) (w .two) d _ 0 p same (turns-all s)
+        walk-to l (swept-met (rowAt a) n rb m most (ruled-plain (w .one)) (w .two) d _ 0 p same (turns-few (omega arith) s)
         (subst₂ (λ (x y : ℕ). Meeting (rowAt a) n i u rb m x y most (rowAt out) k t) (e .0) (e .1) (w .met)))
 
     pub walk-swept-all : (out′ : List ℕ) {c i′ j′ k′ u′ v′ t′ : ℕ}
@@ -213,10 +210,10 @@ module _ {m lo c i j k u v t : ℕ} (s : Inside m lo c i j k u v t) where
     pub inside-starts : 2 * lo + 1 ≤ length b
     inside-starts = omega (arith, s .before, s .behind, s .turns .right, q .fits)
 
-    pub inside-fits : (2 * (v - 1) ≤ length (inner-part b lo)) × (v - 1 ≤ rowLimit)
-    inside-fits = (omega (arith, s .before, q .fits, inner-length b lo), omega (arith, s .before, q .few))
+    pub inside-fits : (2 * (v - 1) ≤ length (rest-of b (2 * lo + 1))) × (v - 1 ≤ rowLimit)
+    inside-fits = (omega (arith, s .before, q .fits, rest-length b (2 * lo + 1)), omega (arith, s .before, q .few))
 
-    pub inside-alike : Alike (gaps 4294967295 (rowAt b) m lo) 1 (rowAt (inner-part b lo)) (j - 1) (v - 1)
+    pub inside-alike : Alike (gaps 4294967295 (rowAt b) m lo) 1 (rowAt (rest-of b (2 * lo + 1))) (j - 1) (v - 1)
     inside-alike x _ l = gap-read 4294967295 (rowAt b) m (gap-row b lo x (omega (arith, q .fits)) (omega (arith, s .before)))
 
 module _ {a : List ℕ} {n : ℕ} {b : List ℕ} {m lo hi : ℕ} (p : Ruled a n) (q : Ruled b m) (f : GapsFrom (rowAt b) m lo) (g : GapsTo 4294967295 (rowAt b) m hi) where

@@ -20,6 +20,10 @@ use Rattle.tables.proofs.Inserting.{plain-links, apart-to}
 use Rattle.tables.proofs.Placing.{laid-moved}
 use Rattle.tables.proofs.Crossing.{Crossed, crossed-none, crossed-more, moves, full, none-left, none-right}
 
+-- a row as it was read
+abbrev pub Read : (ℕ → Row) → ℕ → ℕ → ℕ → Type 0
+Read row i s e = (s ≡ row i .start) × (e ≡ row i .end)
+
 -- ## What a step is made of
 
 module _ {room k x y : ℕ} {row row′ : ℕ → Row} (s : Stores room row k x y row′) where
@@ -107,6 +111,10 @@ above-less {p = p} {q = q} h g s = ⊎-elim (λ l. omega (arith, s .two .on (ome
 pub meeting-less : {c i j k p e q f i′ j′ k′ u v t p₂ e₂ q₂ f₂ u′ v′ t′ room : ℕ} {row row′ row₂ : ℕ → Row} → Turns c i j k u v t → 0 < c
     → Below room row i j k p e q f row′ i′ j′ k′ → Above row′ u v t p₂ e₂ q₂ f₂ row₂ u′ v′ t′ → (u′ + v′) - (i′ + j′) < (u + v) - (i + j)
 meeting-less h g s r = omega (arith, h .left, h .right, below-on s, above-few r .0, above-few r .2)
+
+-- where some fit, fewer do
+pub turns-few : {c d i j k u v t : ℕ} → d ≤ c → Turns c i j k u v t → Turns d i j k u v t
+turns-few h s = record { left = omega (arith, s .left); right = omega (arith, s .right); room = omega (arith, s .room) }
 
 -- a turn leaves room for one less
 pub turns-less : {c i j k p e q f i′ j′ k′ u v t p₂ e₂ q₂ f₂ u′ v′ t′ room : ℕ} {row row′ row₂ : ℕ → Row} → Turns c i j k u v t → 0 < c
@@ -351,14 +359,14 @@ module _ (ra : ℕ → Row) (n : ℕ) (rb : ℕ → Row) (m most : ℕ) (ta : Pl
 
   -- a step from above alone, with rows as they were read
   pub meeting-top : {i u u′ j v v′ k t t′ p e q f : ℕ} {row row′ : ℕ → Row} → (i < u) × (j < v) × (k < t)
-      → (p ≡ ra (u - 1) .start) × (e ≡ ra (u - 1) .end) → (q ≡ rb (v - 1) .start) × (f ≡ rb (v - 1) .end) → Above row u v t p e q f row′ u′ v′ t′
+      → Read ra (u - 1) p e → Read rb (v - 1) q f → Above row u v t p e q f row′ u′ v′ t′
       → Meeting ra n i u rb m j v most row k t → Meeting ra n i u′ rb m j v′ most row′ k t′
   meeting-top {u = u} {v = v} h c d r z = meeting-above _ _ _ _ _ _ _ _ _ (u - 1) (v - 1) _ _ (omega (arith, h .0)) (omega (arith, h .1)) (h .0) (h .1) (h .2) (above-read c d r) z
 
   -- a turn: both steps, with rows as they were read
   pub meeting-turn : {c₀ i i′ u u′ j j′ v v′ k k′ t t′ p e q f p₂ e₂ q₂ f₂ : ℕ} {row row′ row₂ : ℕ → Row} → Turns c₀ i j k u v t → 0 < c₀
-      → (p ≡ ra i .start) × (e ≡ ra i .end) → (q ≡ rb j .start) × (f ≡ rb j .end) → Below t row i j k p e q f row′ i′ j′ k′
-      → (p₂ ≡ ra (u - 1) .start) × (e₂ ≡ ra (u - 1) .end) → (q₂ ≡ rb (v - 1) .start) × (f₂ ≡ rb (v - 1) .end) → Above row′ u v t p₂ e₂ q₂ f₂ row₂ u′ v′ t′
+      → Read ra i p e → Read rb j q f → Below t row i j k p e q f row′ i′ j′ k′
+      → Read ra (u - 1) p₂ e₂ → Read rb (v - 1) q₂ f₂ → Above row′ u v t p₂ e₂ q₂ f₂ row₂ u′ v′ t′
       → Meeting ra n i u rb m j v most row k t → Meeting ra n i′ u′ rb m j′ v′ most row₂ k′ t′
   meeting-turn {c₀} {i} {i′} {u} {u′} {j} {j′} {v} {v′} {k} {k′} {t} {t′} {row = row} {row′ = row′} {row₂ = row₂} h g a b s c d r z =
       let w = below-few s in
@@ -366,7 +374,7 @@ module _ (ra : ℕ → Row) (n : ℕ) (rb : ℕ → Row) (m most : ℕ) (ta : Pl
       (meeting-below i i′ u j j′ v k k′ t row row′ (omega (arith, h .left)) (omega (arith, h .right)) (below-read a b s) z)
 
   -- a step from below alone
-  pub meeting-rest : {i i′ u j j′ v k k′ t p e q f : ℕ} {row row′ : ℕ → Row} → (i < u) × (j < v) → (p ≡ ra i .start) × (e ≡ ra i .end) → (q ≡ rb j .start) × (f ≡ rb j .end)
+  pub meeting-rest : {i i′ u j j′ v k k′ t p e q f : ℕ} {row row′ : ℕ → Row} → (i < u) × (j < v) → Read ra i p e → Read rb j q f
       → Below t row i j k p e q f row′ i′ j′ k′ → Meeting ra n i u rb m j v most row k t → Meeting ra n i′ u rb m j′ v most row′ k′ t
   meeting-rest h a b s z = meeting-below _ _ _ _ _ _ _ _ _ _ _ (h .0) (h .1) (below-read a b s) z
 

@@ -7,11 +7,7 @@ use Rattle.tables.specs.Inner.Rows.{Row}
 use Rattle.tables.specs.Inner.Edit.{Plain}
 use Rattle.tables.specs.Inner.Ends.{Turns, Below, Above, Places, Turned, Swept, none, more}
 use Rattle.varint.proofs.Cases.{split}
-use Rattle.tables.proofs.Meeting.{Meeting, meeting-turn, meeting-less, turns-less, below-read, above-read, below-room, above-few}
-
--- a row as it was read
-abbrev pub Read : (ℕ → Row) → ℕ → ℕ → ℕ → Type 0
-Read row i s e = (s ≡ row i .start) × (e ≡ row i .end)
+use Rattle.tables.proofs.Meeting.{Read, Meeting, meeting-turn, meeting-less, turns-few, turns-less, below-read, above-read, below-room, above-few}
 
 -- of c turns d are left
 pub record Underway (ra rb : ℕ → Row) (c d : ℕ) (x y : Places) : Type 0 where
@@ -66,13 +62,12 @@ pub record Went (c e : ℕ) (x y : Places) : Type 0 where
   pub less : left y + c ≤ left x
 
 pub swept-went : {ra rb : ℕ → Row} {c : ℕ} {x y : Places} (e : ℕ) → Swept ra rb x c y → Fits (c + e) x → Went c e x y
-swept-went e none f = record { fits = record { left = omega (arith, f .left); right = omega (arith, f .right); room = omega (arith, f .room) }; behind = omega arith; before2 = omega arith; less = omega arith }
+swept-went e none f = record { fits = turns-few (omega arith) f; behind = omega arith; before2 = omega arith; less = omega arith }
 swept-went e (more c y z s t) f =
-    let p = swept-went (suc e) s (record { left = omega (arith, f .left); right = omega (arith, f .right); room = omega (arith, f .room) }) in
+    let p = swept-went (suc e) s (turns-few (omega arith) f) in
     let g : 0 < suc e = omega arith in
-    let w = turns-less (p .fits) g (t .below) (t .above) in
     record {
-      fits = record { left = omega (arith, w .left); right = omega (arith, w .right); room = omega (arith, w .room) };
+      fits = turns-few (omega arith) (turns-less (p .fits) g (t .below) (t .above));
       behind = omega (arith, p .behind, below-rises (t .below));
       before2 = omega (arith, p .before2, above-few (t .above) .2);
       less = omega (arith, p .less, meeting-less (p .fits) g (t .below) (t .above));
@@ -98,5 +93,5 @@ module _ (ra : ℕ → Row) (n : ℕ) (rb : ℕ → Row) (m most : ℕ) (ta : Pl
   pub swept-met : {c : ℕ} {x y : Places} (e : ℕ) → Swept ra read x c y → Alike rb d read (x .j) (x .v) → Fits (c + e) x → Met x → Met y
   swept-met e none same f g = g
   swept-met {x = x} e (more c y z s t) same f g =
-      let h : Fits (c + suc e) x = record { left = omega (arith, f .left); right = omega (arith, f .right); room = omega (arith, f .room) } in
+      let h : Fits (c + suc e) x = turns-few (omega arith) f in
       met-more same (swept-went (suc e) s h) t (swept-met (suc e) s same h g)

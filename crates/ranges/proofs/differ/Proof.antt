@@ -118,7 +118,7 @@ abbrev Turn : Type 0
 Turn = tie.Then3 Inv-loop μ-loop Inv-loop2 μ-loop2
 
 abbrev start-of : Rest → tie.Start Inv-loop μ-loop Inv-loop2 μ-loop2
-start-of r = search
+start-of r = r .before .before .before .before .before .before .before .before .before .before .before
 
 sub-sweep : tie.Need-sub-sweep Inv-loop μ-loop Inv-loop2 μ-loop2
 sub-sweep c = let t : Turn = search in omega (arith, (t .before .turns-inside .ensures (t .if3 .taken)) .behind)
