@@ -694,11 +694,11 @@ fn decode_pairs(
     let mut left = count;
     let mut n: usize = 0;
     while 0 < left {
-        let first = varint::read_u64(bytes, next);
+        let first = varint::read_var_u64(bytes, next);
         let ReadU64::Done(client, mid) = first else {
             return Decoded::Refused(varint::why_u64(first));
         };
-        let second = varint::read_u32(bytes, mid);
+        let second = varint::read_var_u32(bytes, mid);
         let ReadU32::Done(clock, past) = second else {
             return Decoded::Refused(varint::why_u32(second));
         };

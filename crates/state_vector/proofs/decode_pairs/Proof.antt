@@ -29,9 +29,9 @@ decode-pairs-spec =
     (λ c. let at-loop : tie.At-loop Inv-loop μ-loop = search in at-loop .loop .inv .clients)
     (λ c. let at-loop : tie.At-loop Inv-loop μ-loop = search in at-loop .loop .inv .clocks)
     (λ c.
-    let at-read-u64 : tie.After-read-u64 Inv-loop μ-loop = search in
+    let at-read-var-u64 : tie.After-read-var-u64 Inv-loop μ-loop = search in
     let at-start : tie.Start Inv-loop μ-loop = search in
-    pairing-stop (at-start .pre) (at-read-u64 .before .before .loop .inv) (pair-first _ _ _ _ _ (at-read-u64 .before .loop-test .taken) (c .before .enum-told .given .1) (c .why-u64 .ensures) (at-read-u64 .read-u64 .ensures)))
+    pairing-stop (at-start .pre) (at-read-var-u64 .before .before .loop .inv) (pair-first _ _ _ _ _ (at-read-var-u64 .before .loop-test .taken) (c .before .enum-told .given .1) (c .why-u64 .ensures) (at-read-var-u64 .read-var-u64 .ensures)))
     (λ c κs. search needs)
     (λ c. search needs)
     (λ c. search needs)
@@ -39,10 +39,10 @@ decode-pairs-spec =
     (λ c. let at-loop : tie.At-loop Inv-loop μ-loop = search in at-loop .loop .inv .clients)
     (λ c. let at-loop : tie.At-loop Inv-loop μ-loop = search in at-loop .loop .inv .clocks)
     (λ c.
-    let at-read-u32 : tie.After-read-u32 Inv-loop μ-loop = search in
-    let at-read-u64 : tie.After-read-u64 Inv-loop μ-loop = search in
+    let at-read-var-u32 : tie.After-read-var-u32 Inv-loop μ-loop = search in
+    let at-read-var-u64 : tie.After-read-var-u64 Inv-loop μ-loop = search in
     let at-start : tie.Start Inv-loop μ-loop = search in
-    pairing-stop (at-start .pre) (at-read-u64 .before .before .loop .inv) (pair-second _ _ _ _ _ (at-read-u64 .before .loop-test .taken) (at-read-u32 .before .before .first .given .1) (at-read-u64 .read-u64 .ensures) (c .before .enum-told2 .given .1) (c .why-u32 .ensures) (at-read-u32 .read-u32 .ensures)))
+    pairing-stop (at-start .pre) (at-read-var-u64 .before .before .loop .inv) (pair-second _ _ _ _ _ (at-read-var-u64 .before .loop-test .taken) (at-read-var-u32 .before .before .first .given .1) (at-read-var-u64 .read-var-u64 .ensures) (c .before .enum-told2 .given .1) (c .why-u32 .ensures) (at-read-var-u32 .read-var-u32 .ensures)))
     (λ c κs.
     let at-loop : tie.At-loop Inv-loop μ-loop = search in
     let at-start : tie.Start Inv-loop μ-loop = search in
@@ -63,7 +63,7 @@ decode-pairs-spec =
     let at-first : tie.After-first Inv-loop μ-loop = search in
     let at-in-loop : tie.In-loop Inv-loop μ-loop = search in
     let at-start : tie.Start Inv-loop μ-loop = search in
-    pairing-over (at-start .pre) (at-in-loop .before .loop .inv) _ (at-put-row .put-row .ensures) (omega arith) (pair-full _ _ _ _ _ (at-in-loop .loop-test .taken) (at-first .first .given .1) (at-first .before .before .read-u64 .ensures) (at-second .second .given .1) (at-second .before .before .read-u32 .ensures)))
+    pairing-over (at-start .pre) (at-in-loop .before .loop .inv) _ (at-put-row .put-row .ensures) (omega arith) (pair-full _ _ _ _ _ (at-in-loop .loop-test .taken) (at-first .first .given .1) (at-first .before .before .read-var-u64 .ensures) (at-second .second .given .1) (at-second .before .before .read-var-u32 .ensures)))
     (λ c. search needs)
     (λ c. search needs)
     (λ c.
@@ -72,7 +72,7 @@ decode-pairs-spec =
     let at-first : tie.After-first Inv-loop μ-loop = search in
     let at-in-loop : tie.In-loop Inv-loop μ-loop = search in
     let at-start : tie.Start Inv-loop μ-loop = search in
-    pairing-more (at-start .pre) (at-in-loop .before .loop .inv) _ (at-put-row .put-row .ensures) (omega arith) (at-put-row .put-row .kept .0) (at-put-row .put-row .kept .1 .0) (pair-more _ _ _ _ _ (at-in-loop .loop-test .taken) (at-first .first .given .1) (at-first .before .before .read-u64 .ensures) (at-second .second .given .1) (at-second .before .before .read-u32 .ensures)))
+    pairing-more (at-start .pre) (at-in-loop .before .loop .inv) _ (at-put-row .put-row .ensures) (omega arith) (at-put-row .put-row .kept .0) (at-put-row .put-row .kept .1 .0) (pair-more _ _ _ _ _ (at-in-loop .loop-test .taken) (at-first .first .given .1) (at-first .before .before .read-var-u64 .ensures) (at-second .second .given .1) (at-second .before .before .read-var-u32 .ensures)))
     (λ c. c .before .loop .inv .clients)
     (λ c. c .before .loop .inv .clocks)
     (λ c. let at-start : tie.Start Inv-loop μ-loop = search in pairing-all (at-start .pre) (c .before .loop .inv) (omega arith)))
