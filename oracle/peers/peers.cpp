@@ -2,6 +2,7 @@
 #include <boost/icl/interval_set.hpp>
 #include <cstdint>
 #include <google/protobuf/io/coded_stream.h>
+#include <google/protobuf/io/zero_copy_stream_impl_lite.h>
 #include <roaring/roaring.h>
 typedef uint32_t u32;
 typedef uint64_t u64;
@@ -10,6 +11,7 @@ using S = boost::icl::interval_set<u32>;
 using I = boost::icl::interval<u32>;
 using In = google::protobuf::io::CodedInputStream;
 using Out = google::protobuf::io::CodedOutputStream;
+using Lent = google::protobuf::io::ArrayOutputStream;
 extern "C" {
 void *ro_make(const u32 *t, sz n) {
     auto r = roaring_bitmap_create();
@@ -41,4 +43,10 @@ u64 pb_dec64(const uint8_t *b, sz len, sz n) { In c(b, (int)len); u64 s = 0; for
 u32 pb_dec32(const uint8_t *b, sz len, sz n) { In c(b, (int)len); u32 s = 0; for (sz i = 0; i < n; i++) { uint32_t v; if (!c.ReadVarint32(&v)) return 0; s ^= v; } return s; }
 sz pb_enc64(const u64 *v, sz n, uint8_t *o) { uint8_t *p = o; for (sz i = 0; i < n; i++) p = Out::WriteVarint64ToArray(v[i], p); return p - o; }
 sz pb_enc32(const u64 *v, sz n, uint8_t *o) { uint8_t *p = o; for (sz i = 0; i < n; i++) p = Out::WriteVarint32ToArray((u32)v[i], p); return p - o; }
+// the same with its own test of the room
+sz pb_room64(const u64 *v, sz n, uint8_t *o, sz len) { Lent a(o, (int)len); Out c(&a); for (sz i = 0; i < n; i++) c.WriteVarint64(v[i]); return c.HadError() ? 0 : c.ByteCount(); }
+sz pb_room32(const u64 *v, sz n, uint8_t *o, sz len) { Lent a(o, (int)len); Out c(&a); for (sz i = 0; i < n; i++) c.WriteVarint32((u32)v[i]); return c.HadError() ? 0 : c.ByteCount(); }
+// no library: numbers of one byte and no others, in a plain loop, with a test of the room and without
+sz put_room(const u64 *v, sz n, uint8_t *o, sz len) { sz at = 0; for (sz i = 0; i < n; i++) { if (v[i] >= 128 || at >= len) return 0; o[at++] = (uint8_t)v[i]; } return at; }
+sz put_blind(const u64 *v, sz n, uint8_t *o) { sz at = 0; for (sz i = 0; i < n; i++) { if (v[i] >= 128) return 0; o[at++] = (uint8_t)v[i]; } return at; }
 }

@@ -150,6 +150,7 @@ impl Bench {
             let p = self.race(per, &mut [Box::new(|| timed(|| for b in &bs { let b = bb(&b[..]); let (mut at, mut s) = (0, 0); for _ in 0..N { let r = f(b.as_ptr(), b.len(), at); s ^= r.value; at = r.next } bb(s); }))]);
             self.parts.push((format!("read u64, {what}: a trial with a number of one byte answered before the loop"), p[0]));
             let peers = crate::bench::peers::numbers(self, &bs, &vs, N);
+            for (part, t) in peers.2 { self.parts.push((format!("write u64, {what}: {part}"), t)) }
             // The goal is for the loop inside, as it was first measured; a call a number is shown beside it.
             for (what, goal, times, peers) in [(format!("read {what}"), [0.65, 0.80, 0.50][m], &read, peers.0), (format!("write {what}"), 0.90, &write, peers.1)] {
                 let (verb, what) = what.split_once(' ').unwrap();
@@ -469,7 +470,7 @@ pub mod peers {
     type Named = Vec<(&'static str, f64)>;
 
     #[cfg(not(peers))]
-    pub fn numbers(_: &Bench, _: &[Vec<u8>], _: &[Vec<u64>], _: usize) -> ([Named; 2], [Named; 2]) { Default::default() }
+    pub fn numbers(_: &Bench, _: &[Vec<u8>], _: &[Vec<u64>], _: usize) -> ([Named; 2], [Named; 2], Named) { Default::default() }
     #[cfg(not(peers))]
     pub fn sets(_: &Bench, _: usize, _: &[(Vec<u32>, Vec<u32>)], _: &[(IdRange, IdRange)]) -> Named { vec![] }
 
@@ -481,16 +482,20 @@ pub mod peers {
         fn icl_make(t: *const u32, n: usize) -> *mut V; fn icl_op(op: i32, a: *mut V, b: *mut V) -> usize; fn icl_free(a: *mut V);
         fn pb_dec64(b: *const u8, l: usize, n: usize) -> u64; fn pb_dec32(b: *const u8, l: usize, n: usize) -> u32;
         fn pb_enc64(v: *const u64, n: usize, o: *mut u8) -> usize; fn pb_enc32(v: *const u64, n: usize, o: *mut u8) -> usize;
+        fn pb_room64(v: *const u64, n: usize, o: *mut u8, l: usize) -> usize; fn pb_room32(v: *const u64, n: usize, o: *mut u8, l: usize) -> usize;
+        fn put_room(v: *const u64, n: usize, o: *mut u8, l: usize) -> usize; fn put_blind(v: *const u64, n: usize, o: *mut u8) -> usize;
     }
     #[cfg(peers)]
-    pub fn numbers(m: &Bench, bs: &[Vec<u8>], vs: &[Vec<u64>], n: usize) -> ([Named; 2], [Named; 2]) {
-        let mut o = vec![0u8; 10 * n + 16];
-        let mut o2 = vec![0u8; 10 * n + 16];
+    pub fn numbers(m: &Bench, bs: &[Vec<u8>], vs: &[Vec<u64>], n: usize) -> ([Named; 2], [Named; 2], Named) {
+        let [mut o, mut o2, mut o3, mut o4] = [(); 4].map(|_| vec![0u8; 10 * n + 16]);
+        let l = o.len();
         unsafe {
             for (b, v) in bs.iter().zip(vs) {
                 let want = v.iter().fold(0, |x, y| x ^ y);
                 assert_eq!((pb_dec64(b.as_ptr(), b.len(), n), pb_dec32(b.as_ptr(), b.len(), n) as u64), (want, want));
                 let k = pb_enc64(v.as_ptr(), n, o.as_mut_ptr());
+                assert_eq!(&o[..k], &b[..]);
+                let k = pb_room64(v.as_ptr(), n, o.as_mut_ptr(), l);
                 assert_eq!(&o[..k], &b[..]);
             }
             let t = m.race(bs.len() * n, &mut [
@@ -498,8 +503,19 @@ pub mod peers {
                 Box::new(|| timed(|| for b in bs { bb(pb_dec32(b.as_ptr(), b.len(), n)); })),
                 Box::new(|| timed(|| for v in vs { bb(pb_enc64(v.as_ptr(), n, o.as_mut_ptr())); })),
                 Box::new(|| timed(|| for v in vs { bb(pb_enc32(v.as_ptr(), n, o2.as_mut_ptr())); })),
+                Box::new(|| timed(|| for v in vs { bb(pb_room64(v.as_ptr(), n, o3.as_mut_ptr(), l)); })),
+                Box::new(|| timed(|| for v in vs { bb(pb_room32(v.as_ptr(), n, o4.as_mut_ptr(), l)); })),
             ]);
-            ([vec![("protobuf", t[0])], vec![("protobuf", t[1])]], [vec![("protobuf", t[2])], vec![("protobuf", t[3])]])
+            let mut parts = vec![];
+            if bs[0].len() == n {
+                let p = m.race(bs.len() * n, &mut [
+                    Box::new(|| timed(|| for v in vs { bb(put_room(v.as_ptr(), n, o.as_mut_ptr(), l)); })),
+                    Box::new(|| timed(|| for v in vs { bb(put_blind(v.as_ptr(), n, o2.as_mut_ptr())); })),
+                ]);
+                parts = vec![("a plain loop in C++ for such numbers alone, with a test of the room", p[0]), ("the same loop without it", p[1])];
+            }
+            let w = |blind, room| vec![("protobuf", blind), ("protobuf with its test of the room", room)];
+            ([vec![("protobuf", t[0])], vec![("protobuf", t[1])]], [w(t[2], t[4]), w(t[3], t[5])], parts)
         }
     }
     #[cfg(peers)]

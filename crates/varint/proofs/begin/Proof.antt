@@ -19,6 +19,7 @@ begin-spec =
     (tie.spec
     Inv-loop
     μ-loop
+    (λ c κs. search beginning)
     (λ c. search beginning)
     (λ c. search beginning)
     (λ c. search beginning)
