@@ -754,7 +754,7 @@ fn write_number(value: u64, buf: &mut [u8], at: usize) -> usize
     requires { ⌜ at + length (bytesOf value) ≤ length (now buf) ⌝ }
     ensures { λ r. ⌜ Puts (bytesOf value) (now (buf .entry)) at (now (buf .exit)) r ⌝ }
 {
-    let w = varint::write_u64(value, buf, at);
+    let w = varint::write_var_u64(value, buf, at);
     match w {
         Wrote::Done(p) => p,
         Wrote::Refused(_) => at,

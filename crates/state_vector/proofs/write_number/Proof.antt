@@ -15,6 +15,6 @@ write-number-spec =
     (λ c. search number-put)
     (λ c. search needs)
     (λ c.
-    let w : tie.After-write-u64 = search in
+    let w : tie.After-write-var-u64 = search in
     let s : tie.Start = search in
-    absurd (number-fits _ _ _ _ (c .enum-told .given .1) (w .write-u64 .ensures) (s .pre))))
+    absurd (number-fits _ _ _ _ (c .enum-told .given .1) (w .write-var-u64 .ensures) (s .pre))))

@@ -1,27 +1,14 @@
--- `varint::write_var_u64` meets its contract: the loop goes by `Long`, and what it leaves is written by `write_few`. Assumes nothing.
-use Rattle.varint.proofs.Writing.{Long, writing-long}
+-- `varint::write_var_u64` meets its contract: the laws of the room answer each need. Assumes nothing.
+use Rattle.varint.proofs.Writing.{room}
 use Rattle.varint.proofs.write_var_u64.Statement.{statement}
 use Rattle.varint.proofs.write_var_u64.Tie as tie
-
-abbrev Inv-loop : tie.InvT-loop
-Inv-loop value buf₀ at v₀ next₀ buf v next = Long value at buf₀ buf v next
-
-abbrev μ-loop : tie.MeasureT-loop
-μ-loop value buf₀ at v₀ next₀ buf v next = v
 
 pub write-var-u64-spec : {M : Type 1} → statement M
 write-var-u64-spec =
     tie.close
     (tie.spec
-    Inv-loop
-    μ-loop
-    (λ c. search writing-long)
-    (λ c. search writing-long)
-    (λ c. search writing-long)
-    (λ c. search writing-long)
-    (λ c. search writing-long)
-    (λ c. search writing-long)
-    (λ c. search writing-long)
-    (λ c κs. search writing-long)
-    (λ c. search writing-long)
-    (λ c. search writing-long))
+    (λ c κs. search room)
+    (λ c κs. search room)
+    (λ c. search room)
+    (λ c. search room)
+    (λ c. search room))
