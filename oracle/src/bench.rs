@@ -77,11 +77,6 @@ type Put = extern "C" fn(u64, *mut u8, usize, usize) -> Wrote;
 #[inline(never)]
 extern "C" fn one_byte(b: *const u8, _: usize, at: usize) -> Number { Number { no: 0, value: unsafe { *b.add(at) } as u64, next: at + 1 } }
 #[inline(never)]
-extern "C" fn short_first(b: *const u8, len: usize, at: usize) -> Number {
-    let s = unsafe { std::slice::from_raw_parts(b, len) };
-    match s.get(at) { Some(&x) if x < 128 => Number { no: 0, value: x as u64, next: at + 1 }, _ => iz_read_u64(s, at) }
-}
-#[inline(never)]
 extern "C" fn put_byte(v: u64, b: *mut u8, _: usize, at: usize) -> Wrote { unsafe { *b.add(at) = v as u8 } Wrote { no: 0, next: at + 1 } }
 
 impl Bench {
@@ -146,9 +141,6 @@ impl Bench {
                 self.parts.push(("read of one byte: a call that only loads it and answers".into(), p[0]));
                 self.parts.push(("write of one byte: a call that only stores it and answers".into(), p[1]));
             }
-            let f: Bare = bb(short_first);
-            let p = self.race(per, &mut [Box::new(|| timed(|| for b in &bs { let b = bb(&b[..]); let (mut at, mut s) = (0, 0); for _ in 0..N { let r = f(b.as_ptr(), b.len(), at); s ^= r.value; at = r.next } bb(s); }))]);
-            self.parts.push((format!("read u64, {what}: a trial with a number of one byte answered before the loop"), p[0]));
             let peers = crate::bench::peers::numbers(self, &bs, &vs, N);
             for (part, t) in peers.2 { self.parts.push((format!("write u64, {what}: {part}"), t)) }
             // The goal is for the loop inside, as it was first measured; a call a number is shown beside it.
