@@ -56,6 +56,9 @@ fn main() {
         for l in ["roaring", "protobuf", "stdc++"] { println!("cargo:rustc-link-lib=dylib={l}") }
         println!("cargo:rustc-cfg=peers");
     }
+    // how far on all code of the measuring program stands
+    println!("cargo:rerun-if-env-changed=BENCH_PAD");
+    println!("cargo:rustc-env=BENCH_PAD={}", env::var("BENCH_PAD").unwrap_or("0".into()));
     let rustc = std::process::Command::new(env::var("RUSTC").unwrap()).arg("--version").output().unwrap();
     println!("cargo:rustc-env=RUSTC_SAYS={}", String::from_utf8_lossy(&rustc.stdout).trim());
     println!("cargo:rerun-if-env-changed=YRS_SRC");

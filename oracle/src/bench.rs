@@ -13,6 +13,7 @@ use crate::ours::pace::*;
 use crate::rng::Rng;
 use crate::state_vector::StateVector;
 use crate::updates::{decoder::Decode, encoder::Encode};
+use std::cell::RefCell;
 use std::hint::black_box as bb;
 use std::time::{Duration, Instant};
 
@@ -23,7 +24,10 @@ fn inputs(n: usize) -> usize { (32768 / n).max(INPUTS) }
 /// Room for the most rows of a table.
 const ROOM: usize = 1024;
 
-pub struct Bench { pub ms: u64, pub least: usize, rng: Rng, pub out: Vec<Line>, pub parts: Vec<(String, f64)>, pub skipped: Vec<String>, pub growth: Vec<(String, Vec<Option<(usize, f64, f64)>>)> }
+pub struct Bench { pub ms: u64, pub least: usize, places: RefCell<Places>, rng: Rng, pub out: Vec<Line>, pub parts: Vec<(String, f64)>, pub skipped: Vec<String>, pub growth: Vec<(String, Vec<Option<(usize, f64, f64)>>)> }
+/// The least times of each race of numbers so far, in their order, in this build and in earlier ones; and which race comes next, if one does.
+#[derive(Default)]
+struct Places { least: Vec<Vec<f64>>, next: Option<usize> }
 /// A measured row, times in ns for one operation.
 pub struct Line { pub group: &'static str, pub name: String, pub goal: Option<f64>, pub limit: Option<f64>, pub yrs: f64, pub alone: Option<f64>, pub ours: f64, pub copy: f64, pub peers: Vec<(&'static str, f64)> }
 
@@ -31,7 +35,19 @@ fn timed(f: impl FnOnce()) -> Duration { let t = Instant::now(); f(); t.elapsed(
 type Way<'a> = Box<dyn FnMut() -> Duration + 'a>;
 
 impl Bench {
-    pub fn new(ms: u64, seed: u64) -> Bench { Bench { ms, least: 15, rng: Rng(seed), out: vec![], parts: vec![], skipped: vec![], growth: vec![] } }
+    pub fn new(ms: u64, seed: u64) -> Bench { Bench { ms, least: 15, places: Default::default(), rng: Rng(seed), out: vec![], parts: vec![], skipped: vec![], growth: vec![] } }
+    /// What earlier builds saw, and what is seen now.
+    pub fn seen(&mut self, least: Vec<Vec<f64>>) { self.places.get_mut().least = least }
+    pub fn all_seen(&self) -> Vec<Vec<f64>> { self.places.borrow().least.clone() }
+    fn place(&self, best: &mut Vec<f64>) {
+        let mut p = self.places.borrow_mut();
+        let Some(i) = p.next else { return };
+        p.next = Some(i + 1);
+        match p.least.get_mut(i) {
+            Some(before) => for (x, y) in best.iter_mut().zip(before) { *y = x.min(*y); *x = *y },
+            None => p.least.push(best.clone()),
+        }
+    }
     /// The least time of each way for one of `per` operations.
     fn race(&self, per: usize, ways: &mut [Way]) -> Vec<f64> { self.rounds(self.least, per, ways) }
     fn rounds(&self, least: usize, per: usize, ways: &mut [Way]) -> Vec<f64> {
@@ -43,6 +59,7 @@ impl Bench {
             for (w, b) in ways.iter_mut().zip(&mut best) { *b = b.min(w().as_nanos() as f64 / per as f64) }
             rounds += 1;
         }
+        self.place(&mut best);
         best
     }
     fn line(&mut self, l: Line) {
@@ -84,6 +101,7 @@ impl Bench {
     pub fn numbers(&mut self) {
         const N: usize = 2048;
         let inputs = INPUTS;
+        self.places.get_mut().next = Some(0);
         for (m, what) in ["nine in ten one byte", "even, 1 to 5 bytes", "all one byte"].into_iter().enumerate() {
             let r = &mut self.rng;
             let vs: Vec<Vec<u64>> = (0..inputs).map(|_| (0..N).map(|_| match m {
@@ -154,6 +172,7 @@ impl Bench {
                 }
             }
         }
+        self.places.get_mut().next = None;
     }
 
     // ---- range tables

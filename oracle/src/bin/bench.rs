@@ -2,6 +2,12 @@
 #[cfg(not(all(rattle, pace)))]
 fn main() { eprintln!("the proved libraries are not linked: RATTLE_LIB, PACE_LIB"); std::process::exit(2) }
 
+// Before all other code of this program: with another BENCH_PAD every loop stands at another place.
+#[cfg(all(rattle, pace))]
+core::arch::global_asm!(concat!(".pushsection .text.bench_pad, \"ax\", @progbits\n.p2align 4\n.globl bench_pad\nbench_pad:\n.skip 16 + ", env!("BENCH_PAD"), "\n.popsection"));
+#[cfg(all(rattle, pace))]
+extern "C" { fn bench_pad(); }
+
 #[cfg(all(rattle, pace))]
 fn main() {
     use oracle::bench::*;
@@ -12,8 +18,16 @@ fn main() {
     let read = |f: &str| std::fs::read_to_string(f).unwrap_or_default();
     let load = || read("/proc/loadavg").split(' ').take(3).collect::<Vec<_>>().join(" ");
     let before = load();
+    std::hint::black_box(bench_pad as unsafe extern "C" fn());
     let mut b = Bench::new(ms, seed);
+    // Numbers are measured in several builds, a loop at another place in each; the least time counts.
+    let places = std::env::var("BENCH_PLACES").unwrap_or_default();
+    b.seen(read(&places).lines().map(|l| l.split(' ').map(|x| x.parse().unwrap()).collect()).collect());
     b.numbers();
+    if std::env::var("BENCH_ONLY").is_ok() {
+        std::fs::write(&places, b.all_seen().iter().map(|v| v.iter().map(|x| format!("{x:?}")).collect::<Vec<_>>().join(" ") + "\n").collect::<String>()).unwrap();
+        return;
+    }
     b.ranges();
     b.edits();
     b.ids();
