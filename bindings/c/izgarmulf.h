@@ -17,7 +17,7 @@ extern "C" {
 
 enum { IZ_DONE, IZ_END, IZ_LONG, IZ_RANGE, IZ_FULL, IZ_MALFORMED, IZ_SIGN };
 
-/* A number read: document 01's number of the answer, 0 for done; the value; the place past it, or as given. */
+/* A number read: the number of the answer (docs/RULES.md, "Refusals"), 0 for done; the value; the place past it, or as given. */
 typedef struct { uint32_t no; uint64_t value; size_t next; } iz_number;
 /* The same of a signed number. The flag is false where none is kept. */
 typedef struct { uint32_t no; int64_t value; bool is_negative; size_t next; } iz_integer;

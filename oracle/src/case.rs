@@ -99,7 +99,7 @@ impl Case {
     }
 }
 
-/// `no` is document 01's refusal number; 23 stands for "2 or 3", which the original doesn't tell apart.
+/// `no` is the rules' refusal number; 23 stands for "2 or 3", which the original doesn't tell apart.
 /// Optional answers and yes/no are in `some`, a pair in `value`, `second`; a verdict is 0 none, 1 Less,
 /// 2 Equal, 3 Greater; `bytes` is the writer's buffer after, `out` the table with its whole slices.
 #[derive(Clone, Debug, Default, PartialEq, Eq)]

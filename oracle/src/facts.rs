@@ -1,4 +1,4 @@
-//! Where document 01 and the original part ways, each on its smallest input: what the original does in
+//! Where the rules and the original part ways, each on its smallest input: what the original does in
 //! this build, and what the model says. `docs/DIFFERENCES.md` is written from it.
 use crate::block::ClientID;
 use crate::case::*;
@@ -40,19 +40,19 @@ static ASKED: AtomicUsize = AtomicUsize::new(0);
 fn said(c: &Case) -> Answer {
     let m = model::answer(c);
     if let Some(u) = ours::answer(c) {
-        assert!(u == m, "{}: ours {}, document 01 {}", c.line(), u.line(c.op), m.line(c.op));
+        assert!(u == m, "{}: ours {}, the rules {}", c.line(), u.line(c.op), m.line(c.op));
         ASKED.fetch_add(1, Relaxed);
     }
     m
 }
-/// A case whose answer by document 01 is written out.
+/// A case whose answer by the rules is written out.
 fn holds(case: &str, answer: &str) {
     let c = Case::parse(case).unwrap();
     assert_eq!(said(&c).line(c.op), answer, "{case}");
 }
 /// How many inputs the proved library was asked.
 pub fn asked() -> String {
-    if ours::LINKED { format!("the proved library was asked {} of these inputs, and says what document 01 says", ASKED.load(Relaxed)) } else { "the proved library was not asked".into() }
+    if ours::LINKED { format!("the proved library was asked {} of these inputs, and says what the rules say", ASKED.load(Relaxed)) } else { "the proved library was not asked".into() }
 }
 
 fn name(no: u32) -> &'static str { ["done", "END", "LONG", "RANGE", "FULL", "MALFORMED", "SIGN"][no as usize] }

@@ -297,7 +297,7 @@ pub fn all_malformed(s: &Share, see: &mut dyn FnMut(&Case)) {
 
 fn number(r: &mut Rng) -> u64 { let b = r.below(65); if b == 0 { 0 } else { let x = r.next() >> (64 - b); match r.below(8) { 0 => x | 1 << (b - 1), 1 => 1 << (b - 1), 2 => u64::MAX >> (64 - b), _ => x } } }
 
-/// A number written by document 01's rules, then perhaps damaged, at some place among other bytes.
+/// A number written by the rules, then perhaps damaged, at some place among other bytes.
 pub fn random_read(r: &mut Rng, ops: &[Op], see: &mut dyn FnMut(&Case)) {
     let mut c = Case::of(ops[0]);
     let lead = r.below(4) as usize;

@@ -1,4 +1,4 @@
-//! Document 01 in plain Rust: sets of clocks, maps of clients, numbers bit by bit. It shares no line
+//! The rules in plain Rust: sets of clocks, maps of clients, numbers bit by bit. It shares no line
 //! with the library or with the original, and is slow on purpose.
 use crate::case::{Op::*, *};
 use std::collections::{BTreeMap, BTreeSet};
@@ -78,7 +78,7 @@ fn write(int: Int, value: i128, flag: bool, buf: &[u8], at: usize) -> Answer {
 
 pub type Rows = Vec<(u64, u32, u32)>;
 
-/// The rows of a table that keeps document 01's rules.
+/// The rows of a table that keeps its rules.
 pub fn rows(kind: Kind, t: &Table) -> Option<Rows> {
     let r: Rows = match kind {
         Kind::Range => {

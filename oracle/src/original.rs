@@ -14,7 +14,7 @@ use crate::state_vector::StateVector;
 use crate::updates::decoder::{Decode, Decoder, DecoderV1};
 use crate::updates::encoder::Encode;
 
-/// ClientID keeps 53 bits; document 01 asks for clients below 2^32, and the comparison goes on to here.
+/// ClientID keeps 53 bits; the rules ask for clients below 2^32, and the comparison goes on to here.
 pub const CLIENTS: u64 = 1 << 53;
 /// The original reserves room for as many clients as are declared: never more than this here.
 pub const MOST_DECLARED: u32 = 1 << 16;

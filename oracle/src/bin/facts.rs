@@ -7,7 +7,7 @@ fn main() {
     let text = String::from_utf8(out.stdout).unwrap();
     let lines: Vec<&str> = text.lines().collect();
     assert_eq!(lines.len(), all.len());
-    println!("| input | document 01 | Rust debug | Rust release |\n|---|---|---|---|");
+    println!("| input | the rules | Rust debug | Rust release |\n|---|---|---|---|");
     for (f, d) in all.iter().zip(lines) { println!("| {} | {} | {} | {} |", f.what, f.document, d, f.rust) }
     println!("\n{}\n{}", facts::asked(), facts::declared());
 }

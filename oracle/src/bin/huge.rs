@@ -1,4 +1,4 @@
-//! huge [KB]: a state vector that declares up to 2^32-1 pairs and has none, or one. What document 01 says, what ours says (they must agree),
+//! huge [KB]: a state vector that declares up to 2^32-1 pairs and has none, or one. What the rules say, what ours says (they must agree),
 //! and what the original does in a process of its own that may take KB kilobytes of memory (4,194,304, 4 GiB): it reserves room first.
 use oracle::case::*;
 use oracle::{gen, model, original, ours};
@@ -18,7 +18,7 @@ fn main() {
     }
     let kb: u64 = a.get(1).map_or(4 << 20, |s| s.parse().expect("KB"));
     let mut differ = 0;
-    println!("| declared | behind it | document 01 | ours | the original, in {kb} kB |\n|---|---|---|---|---|");
+    println!("| declared | behind it | the rules | ours | the original, in {kb} kB |\n|---|---|---|---|---|");
     for n in gen::HUGE { for tail in [&[][..], &[7, 1]] {
         let mut c = Case::of(Op::VecDecode);
         c.bytes = gen::declared(n, tail);

@@ -20,7 +20,7 @@ fn right(c: &Case) -> Answer {
 struct List { stdin: String, stdout: String, cases: usize }
 impl List {
     /// The cases of oracle/lists open a list. A line `CASE = ANSWER` is answered so by the original; `CASE : ANSWER` stands outside the
-    /// comparison, and document 01 alone answers it; `LINE ! ANSWER` is no call, and the answer is the program's own. `#` starts a comment.
+    /// comparison, and the rules alone answer it; `LINE ! ANSWER` is no call, and the answer is the program's own. `#` starts a comment.
     fn by_hand(root: &str, name: &str, case: fn(&str) -> Case, said: fn(&Case) -> Option<(String, String)>) -> List {
         let mut l = List::default();
         for text in std::fs::read_to_string(format!("{root}/oracle/lists/{name}.txt")).unwrap().lines().filter(|t| !t.is_empty() && !t.starts_with('#')) {
@@ -139,7 +139,7 @@ fn number_said(c: &Case) -> (String, String) {
 fn numbers(mut l: List) -> List {
     let readers: Vec<Op> = ops().into_iter().filter(|o| o.reads()).collect();
     let writers: Vec<Op> = ops().into_iter().filter(|o| matches!(o, Write(_) | WriteSigned(_))).collect();
-    // document 01's bytes to try
+    // the bytes to try of docs/RULES.md
     for (i, v) in [(Int::U64, 128), (Int::U64, 300), (Int::U64, u64::MAX as i128), (Int::I64, 63), (Int::I64, 64), (Int::I64, -1), (Int::I64, -64), (Int::I64, i64::MIN as i128)] {
         let mut c = Case::of(Write(i));
         c.int = v;
@@ -312,7 +312,7 @@ fn vector_said(c: &Case) -> Option<(String, String)> {
     Some((line, answer))
 }
 fn vectors(mut l: List) -> List {
-    // document 01's bytes and rows to try
+    // the bytes and rows to try of docs/RULES.md
     let v = |rows: &[(u64, u32)]| gen::vec_table(rows);
     let with = |op: Op, f: &dyn Fn(&mut Case)| { let mut c = Case::of(op); c.out = gen::room(Kind::Vector, 3, 0); f(&mut c); c };
     let cases = [
@@ -337,7 +337,7 @@ fn vectors(mut l: List) -> List {
     for rows in [12, 40, 250] { gen::random_vector(&mut r, rows, &mut see) }
     l
 }
-/// Document 01's rows to try, as ranges and as ids of client 1.
+/// The rows to try of docs/RULES.md, as ranges and as ids of client 1.
 fn examples(see: &mut dyn FnMut(&Case), kind: Kind) {
     let t = |rows: &[(u32, u32)]| {
         let rows: Vec<_> = rows.iter().map(|r| (1, r.0, r.1)).collect();

@@ -1,0 +1,52 @@
+//! The union, difference and intersection of two tables.
+
+ghost use Rattle.std.specs.Prelude.{ℕ};
+ghost use Rattle.tables.specs.Inner.Rows.{union, difference, intersection};
+ghost use Rattle.ids.specs.View.{combined_rows};
+ghost use Rattle.ids.specs.Room.{lent, Same, Made, both};
+
+use crate::room::IdRoom;
+use crate::view::Ids;
+use tables::difference::differ;
+use tables::merging::unite;
+use tables::walking::cross;
+use varint::Refusal;
+
+/// The union of two tables, if there is room for it.
+pub(crate) fn united(
+    a: Result<Ids<'_>, Refusal>,
+    b: Result<Ids<'_>, Refusal>,
+    out: &mut IdRoom<'_>,
+) -> Result<usize, Refusal>
+    ensures same { Same out.old out.new }
+    ensures made { Made (combined_rows union) (both a.entry b.entry) (lent out.new) result }
+{
+    let count = unite(a?, b?, out);
+    out.fitted(count)
+}
+
+/// The difference of two tables, if there is room for it.
+pub(crate) fn differed(
+    a: Result<Ids<'_>, Refusal>,
+    b: Result<Ids<'_>, Refusal>,
+    out: &mut IdRoom<'_>,
+) -> Result<usize, Refusal>
+    ensures same { Same out.old out.new }
+    ensures made { Made (combined_rows difference) (both a.entry b.entry) (lent out.new) result }
+{
+    let count = differ(a?, b?, out);
+    out.fitted(count)
+}
+
+/// The intersection of two tables, if there is room for it.
+pub(crate) fn crossed(
+    a: Result<Ids<'_>, Refusal>,
+    b: Result<Ids<'_>, Refusal>,
+    out: &mut IdRoom<'_>,
+) -> Result<usize, Refusal>
+    ensures same { Same out.old out.new }
+    ensures made { Made (combined_rows intersection) (both a.entry b.entry) (lent out.new) result }
+{
+    let count = cross(a?, b?, out);
+    out.fitted(count)
+}
