@@ -69,8 +69,5 @@ fn decode_pairs(
 fn count_of(read: Result<Read<usize>, Refusal>) -> usize
     ensures { result ≡ count_of read }
 {
-    match read {
-        Ok(read) => read.value,
-        Err(_) => 0,
-    }
+    read.map_or(0, |read| read.value)
 }
