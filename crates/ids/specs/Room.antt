@@ -1,12 +1,14 @@
 -- What a routine lays into the slices that it is lent, and what it answers.
-use Rattle.std.specs.Prelude.{◌≡◌, Result, Ok, Err, ◌++◌, ℕ, ◌-◌, cond, leb, length, take, replicate}
+use Rattle.std.specs.Prelude.{◌≡◌, Result, Ok, Err, ◌++◌, map, ℕ, ◌-◌, cond, leb, length, take, replicate}
 use Rattle.varint.specs.declared.Refusal.{Refusal}
 use Rattle.varint.specs.declared.Refusal.TheVariants.{Full}
+use Rattle.tables.specs.Answers.{Lays}
 use Rattle.tables.specs.Inner.Rows as inner
 use Rattle.tables.specs.Inner.Sweep.{Holds}
 use Rattle.ids.specs.declared.room.IdRoom.{IdRoom}
-use Rattle.ids.specs.Tables.{Slices, three, most}
+use Rattle.ids.specs.Tables.{Slices, three, most, filled}
 use Rattle.ids.specs.Places.{id_row}
+use Rattle.ids.specs.Lines.{gather, columns}
 
 -- what stands in a room
 abbrev pub lent : IdRoom → Slices
@@ -44,3 +46,9 @@ both (Err e) b = Err e
 pub data Made {A : Type 0} (result : A → inner.Rows) (a : Result A Refusal) (o : Slices) (r : Result ℕ Refusal) : Type 0 where
   made : (t : A) (k : ℕ) → a ≡ Ok t → Holds (most o) (lent_row o) k (result t) → r ≡ fitted (most o) k → Made result a o r
   refused : (e : Refusal) → a ≡ Err e → r ≡ Err e → Made result a o r
+
+-- what a routine that lays its result has made of its tables in the slices o when it answers r: the result stands in out, or there is no room for it; or the
+-- tables were refused, and out is zero
+pub data Laid {A : Type 0} (result : A → inner.Rows) (a : Result A Refusal) (o out : Slices) (r : Result ℕ Refusal) : Type 0 where
+  laid : (t : A) → a ≡ Ok t → Lays (result t) (most o) (λ rs. columns (filled o (map gather rs))) (columns out) r → Laid result a o out r
+  denied : (e : Refusal) → a ≡ Err e → r ≡ Err e → out ≡ kept o 0 → Laid result a o out r

@@ -43,9 +43,10 @@ impl<'a> Ids<'a> {
     }
 
     // Whether one of the rows lo, .., hi - 1 holds the id: each look halves the rows still possible.
-    fn search(self, lo: usize, hi: usize, id: Id) -> bool
-        requires { hi ≤ self.count }
-        ensures { Says (0 < at (span (placed self.entry) lo (hi - lo)) (number_of id.client.0 id.clock.0)) result }
+    // The table is lent: by value, its slices would be copied at each look.
+    fn search(&self, lo: usize, hi: usize, id: Id) -> bool
+        requires { hi ≤ self.now.count }
+        ensures { Says (0 < at (span (placed self.now) lo (hi - lo)) (number_of id.client.0 id.clock.0)) result }
     {
         if hi <= lo {
             return false;

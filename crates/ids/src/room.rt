@@ -2,8 +2,8 @@
 
 ghost use Rattle.std.specs.Prelude.{◌≡◌, ℕ, ◌≤◌, ◌<◌, IfOk, length, get_or};
 ghost use Rattle.std.specs.Result.{result_unwrap_or};
-ghost use Rattle.ids.specs.Tables.{room, most};
-ghost use Rattle.ids.specs.Room.{lent, Same, kept, fitted};
+ghost use Rattle.ids.specs.Tables.{room};
+ghost use Rattle.ids.specs.Room.{lent, Same, kept};
 
 use crate::place::Id;
 use crate::view::fitting;
@@ -27,14 +27,13 @@ impl<'a> IdRoom<'a> {
         self.starts[k]
     }
 
-    /// The answer of a routine that found `count` rows.
-    pub(crate) fn fitted(&self, count: usize) -> Result<usize, Refusal>
-        ensures { result ≡ fitted (most (lent self.now)) count }
+    // The clocks that stand there fit their type.
+    fn clocks_fit(&self)
+        ensures starts { (j : ℕ) → get_or self.now.starts.now j 0 < 4294967296 }
+        ensures ends { (j : ℕ) → get_or self.now.ends.now j 0 < 4294967296 }
     {
-        if count <= self.capacity() {
-            return Ok(count);
-        }
-        Err(Refusal::Full)
+        all_fit(self.starts);
+        all_fit(self.ends);
     }
 
     /// Zeroes every element from row `k` on.
@@ -64,13 +63,17 @@ impl<'a> IdRoom<'a> {
 impl<'a> Room<Id> for IdRoom<'a> {
     ghost use Rattle.std.proofs.Common.{refl};
     ghost use Rattle.ids.specs.Room.{lent, lent_row};
-    ghost use Rattle.ids.specs.Lines.{shape_of, most_of};
+    ghost use Rattle.ids.specs.Lines.{shape_of, most_of, cells_of, fill_of};
 
     ghost row_of = { λ o. lent_row (lent o) };
 
     ghost shape = { shape_of };
 
     ghost most = { most_of };
+
+    ghost cells = { cells_of };
+
+    ghost fill = { fill_of };
 
     ghost plain = { λ o k. refl };
 
@@ -103,6 +106,14 @@ impl<'a> Room<Id> for IdRoom<'a> {
             self.ends.copy_within(from..most, to);
         }
     }
+
+    fn clear_behind(&mut self, count: usize) {
+        if count <= self.capacity() {
+            // For the proof alone: the clocks fit their type, so the rows read back.
+            self.clocks_fit();
+            self.zero_from(count);
+        }
+    }
 }
 
 // The clock of an id.
@@ -111,3 +122,8 @@ fn clock_of(p: Id) -> u32
 {
     p.clock.0
 }
+
+// The clocks of a slice fit their type: said for proofs, with nothing to do.
+fn all_fit(clocks: &[u32])
+    ensures { (j : ℕ) → get_or clocks.now j 0 < 4294967296 }
+{}

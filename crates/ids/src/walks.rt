@@ -3,7 +3,7 @@
 ghost use Rattle.std.specs.Prelude.{ℕ};
 ghost use Rattle.tables.specs.Inner.Rows.{union, difference, intersection};
 ghost use Rattle.ids.specs.View.{combined_rows};
-ghost use Rattle.ids.specs.Room.{lent, Same, Made, both};
+ghost use Rattle.ids.specs.Room.{lent, Same, Laid, both};
 
 use crate::room::IdRoom;
 use crate::view::Ids;
@@ -12,41 +12,62 @@ use tables::merging::unite;
 use tables::walking::cross;
 use varint::Refusal;
 
-/// The union of two tables, if there is room for it.
+/// The union of two tables, laid in a room, if there is room for it.
 pub(crate) fn united(
     a: Result<Ids<'_>, Refusal>,
     b: Result<Ids<'_>, Refusal>,
     out: &mut IdRoom<'_>,
 ) -> Result<usize, Refusal>
     ensures same { Same out.old out.new }
-    ensures made { Made (combined_rows union) (both a.entry b.entry) (lent out.new) result }
+    ensures laid { Laid (combined_rows union) (both a.entry b.entry) (lent out.old) (lent out.new) result }
 {
-    let count = unite(a?, b?, out);
-    out.fitted(count)
+    let a = match a {
+        Ok(a) => a,
+        Err(e) => return out.settled(Err(e)),
+    };
+    let b = match b {
+        Ok(b) => b,
+        Err(e) => return out.settled(Err(e)),
+    };
+    unite(a, b, out)
 }
 
-/// The difference of two tables, if there is room for it.
+/// The difference of two tables, laid in a room, if there is room for it.
 pub(crate) fn differed(
     a: Result<Ids<'_>, Refusal>,
     b: Result<Ids<'_>, Refusal>,
     out: &mut IdRoom<'_>,
 ) -> Result<usize, Refusal>
     ensures same { Same out.old out.new }
-    ensures made { Made (combined_rows difference) (both a.entry b.entry) (lent out.new) result }
+    ensures laid { Laid (combined_rows difference) (both a.entry b.entry) (lent out.old) (lent out.new) result }
 {
-    let count = differ(a?, b?, out);
-    out.fitted(count)
+    let a = match a {
+        Ok(a) => a,
+        Err(e) => return out.settled(Err(e)),
+    };
+    let b = match b {
+        Ok(b) => b,
+        Err(e) => return out.settled(Err(e)),
+    };
+    differ(a, b, out)
 }
 
-/// The intersection of two tables, if there is room for it.
+/// The intersection of two tables, laid in a room, if there is room for it.
 pub(crate) fn crossed(
     a: Result<Ids<'_>, Refusal>,
     b: Result<Ids<'_>, Refusal>,
     out: &mut IdRoom<'_>,
 ) -> Result<usize, Refusal>
     ensures same { Same out.old out.new }
-    ensures made { Made (combined_rows intersection) (both a.entry b.entry) (lent out.new) result }
+    ensures laid { Laid (combined_rows intersection) (both a.entry b.entry) (lent out.old) (lent out.new) result }
 {
-    let count = cross(a?, b?, out);
-    out.fitted(count)
+    let a = match a {
+        Ok(a) => a,
+        Err(e) => return out.settled(Err(e)),
+    };
+    let b = match b {
+        Ok(b) => b,
+        Err(e) => return out.settled(Err(e)),
+    };
+    cross(a, b, out)
 }

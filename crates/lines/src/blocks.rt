@@ -1,6 +1,7 @@
 //! The input of a replay goes by in blocks of 65,536 bytes: whole lines, and spaces from the last of them to the block's end (the last block
 //! ends anywhere). Each line is answered by one line.
 ghost use Rattle.std.specs.Prelude.{OnOk};
+ghost use Rattle.lines.specs.Put.{Same};
 ghost use Rattle.lines.specs.Output.{Grows};
 
 use crate::{Numbers, Room, line, text};
@@ -17,7 +18,8 @@ pub trait Answers {
     ///
     /// # Errors
     /// [`AllocError`] where there is no memory.
-    fn answer(&self, letter: u8, numbers: Numbers, said: &mut Room<u64>) -> Result<(), AllocError>;
+    fn answer(&self, letter: u8, numbers: Numbers, said: &mut Room<u64>) -> Result<(), AllocError>
+        ensures { Same said.old.memory said.new.memory };
 }
 
 /// Answers the lines of the whole input, each by one line, behind what the output has. `space` holds one block after the other.

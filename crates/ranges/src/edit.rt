@@ -7,7 +7,7 @@ ghost use Rattle.ranges.specs.Tables.{Table, Inserted, Removed};
 ghost use Rattle.ranges.specs.Inner.{row_at, remains, Fronts, Wrote};
 
 use crate::room::{fitting, settled};
-use crate::view::Ranges;
+use crate::view::{Ranges, Row};
 use tables::{Clock, ROW_LIMIT};
 use varint::Refusal;
 
@@ -40,31 +40,24 @@ fn copied<'a>(rows: &'a [u32], count: usize, out: &mut [u32]) -> Result<Ranges<'
     Ok(Ranges { flat: rows, count })
 }
 
-// The clocks start, .., end - 1: none if start is not below end. std's `Range` is not `Copy`.
-#[derive(Clone, Copy)]
-struct Piece {
-    start: u32,
-    end: u32,
-}
-
-// How many rows a piece takes.
-fn size(p: Piece) -> usize
-    ensures { result ≡ length (range p.start p.end) }
+// How many rows a piece takes: one, or none if it holds no clock.
+fn size(p: Row) -> usize
+    ensures { result ≡ length (range p.start.0 p.end.0) }
 {
-    if p.start < p.end { 1 } else { 0 }
+    if p.start.0 < p.end.0 { 1 } else { 0 }
 }
 
 // A piece stored as row `k`, and where the next row stands: from there on all rows stay.
-fn put(out: &mut [u32], k: usize, p: Piece) -> usize
-    requires { 2 * (k + length (range p.start p.end)) ≤ length out.old }
-    ensures stands { Stands (row_at out.old) k (range p.start p.end) (row_at out.new) result }
+fn put(out: &mut [u32], k: usize, p: Row) -> usize
+    requires { 2 * (k + length (range p.start.0 p.end.0)) ≤ length out.old }
+    ensures stands { Stands (row_at out.old) k (range p.start.0 p.end.0) (row_at out.new) result }
     ensures by_index { (x : ℕ) → result ≤ x → row_at out.new x ≡ row_at out.old x }
 {
-    if p.end <= p.start {
+    if p.end.0 <= p.start.0 {
         return k;
     }
-    out[2 * k] = p.start;
-    out[2 * k + 1] = p.end;
+    out[2 * k] = p.start.0;
+    out[2 * k + 1] = p.end.0;
     k + 1
 }
 
@@ -88,14 +81,14 @@ fn splice(
     table: Ranges<'_>,
     i: usize,
     j: usize,
-    p: Piece,
-    q: Piece,
+    p: Row,
+    q: Row,
     out: &mut [u32],
 ) -> Result<usize, Refusal>
     requires i_le_j { i ≤ j }
     requires j_le_n { j ≤ table.count }
     requires fronts { Fronts table.flat.now table.count out.old }
-    ensures { Wrote (span (row_at table.entry.flat.now) 0 i ++ ((range p.start p.end ++ range q.start q.end) ++ span (row_at table.entry.flat.now) j (table.entry.count - j))) (length out.old) (remains out.new result) result }
+    ensures { Wrote (span (row_at table.entry.flat.now) 0 i ++ ((range p.start.0 p.end.0 ++ range q.start.0 q.end.0) ++ span (row_at table.entry.flat.now) j (table.entry.count - j))) (length out.old) (remains out.new result) result }
 {
     let k = i + size(p) + size(q) + (table.count - j);
     if fitting(out.len()) < k {
@@ -120,7 +113,10 @@ fn inserted(
     let table = copied(rows, count, out)?;
     let s = start.0;
     let e = end.0;
-    let none = Piece { start: 0, end: 0 };
+    let none = Row {
+        start: Clock(0),
+        end: Clock(0),
+    };
     if e <= s {
         return splice(table, table.count, table.count, none, none, out);
     }
@@ -128,9 +124,9 @@ fn inserted(
     let j = table.starts_below(i, e as u64 + 1);
     let p = table.start_or(i, s);
     let q = table.end_or(j, e);
-    let piece = Piece {
-        start: p.min(s),
-        end: e.max(q),
+    let piece = Row {
+        start: Clock(p.min(s)),
+        end: Clock(e.max(q)),
     };
     splice(table, i, j, piece, none, out)
 }
@@ -166,19 +162,22 @@ fn removed(
     let table = copied(rows, count, out)?;
     let s = start.0;
     let e = end.0;
-    let none = Piece { start: 0, end: 0 };
+    let none = Row {
+        start: Clock(0),
+        end: Clock(0),
+    };
     if e <= s {
         return splice(table, table.count, table.count, none, none, out);
     }
     let i = table.ends_below(s as u64 + 1);
     let j = table.starts_below(i, e as u64);
-    let first = Piece {
-        start: table.start_or(i, s),
-        end: s,
+    let first = Row {
+        start: Clock(table.start_or(i, s)),
+        end: start,
     };
-    let last = Piece {
-        start: e,
-        end: table.end_or(j, e),
+    let last = Row {
+        start: end,
+        end: Clock(table.end_or(j, e)),
     };
     splice(table, i, j, first, last, out)
 }

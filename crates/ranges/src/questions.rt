@@ -8,8 +8,7 @@ ghost use Rattle.ranges.specs.Tables.{answered, ContainsClock, FindStart, ClockS
 ghost use Rattle.ranges.specs.View.{table_rows};
 ghost use Rattle.ranges.specs.Ruled.{row_at};
 
-use crate::view::Ranges;
-use std::ops::Range;
+use crate::view::{Ranges, Row};
 use tables::Clock;
 use varint::Refusal;
 
@@ -71,13 +70,16 @@ impl<'a> Ranges<'a> {
     }
 
     /// The row at an index, or none past the last.
-    pub fn get(self, index: usize) -> Option<Range<Clock>>
+    pub fn get(self, index: usize) -> Option<Row>
         ensures { option_map answered result ≡ spec.get (table_rows self.entry) index }
     {
         if self.count <= index {
             return None;
         }
-        Some(self.start_of(index)..self.end_of(index))
+        Some(Row {
+            start: self.start_of(index),
+            end: self.end_of(index),
+        })
     }
 
     // How many rows end below `x`. Three looks, which wait for no other, leave a quarter of the rows possible; the last few rows are halved.
@@ -238,7 +240,7 @@ pub fn contains_clock(rows: &[u32], count: usize, clock: Clock) -> Result<bool, 
 /// # Errors
 ///
 /// `Malformed` if the first `count` rows are no table.
-pub fn get(rows: &[u32], count: usize, index: usize) -> Result<Option<Range<Clock>>, Refusal>
+pub fn get(rows: &[u32], count: usize, index: usize) -> Result<Option<Row>, Refusal>
     ensures { Get rows.now count index result }
 {
     Ok(Ranges::checked(rows, count)?.get(index))

@@ -1,10 +1,8 @@
 // Where a routine writes its table, and what it leaves there.
-ghost use Rattle.std.specs.Prelude.{◌≡◌, ℕ, ◌+◌, ◌-◌, ◌*◌, ◌<◌, ◌≤◌, length, IfOk};
-ghost use Rattle.tables.specs.Inner.Rows.{Rows};
-ghost use Rattle.tables.specs.Inner.Sweep.{Holds};
+ghost use Rattle.std.specs.Prelude.{◌≡◌, ◌++◌, ℕ, ◌+◌, ◌-◌, ◌*◌, ◌<◌, ◌≤◌, length, take, replicate, IfOk};
 ghost use Rattle.tables.specs.Inner.Edit.{Moved};
 ghost use Rattle.ranges.specs.Tables.{most};
-ghost use Rattle.ranges.specs.Inner.{row_at, remains, Wrote};
+ghost use Rattle.ranges.specs.Inner.{row_at, remains};
 
 use tables::rows::{Room, Slot};
 use tables::{Clock, ROW_LIMIT};
@@ -35,15 +33,20 @@ pub(crate) struct RangeRoom<'a> {
 
 impl<'a> Room<Clock> for RangeRoom<'a> {
     ghost use Rattle.std.proofs.Common.{refl};
-    ghost use Rattle.std.specs.Prelude.{[], ◌∷◌, length, get_or};
+    ghost use Rattle.std.specs.Prelude.{[], ◌∷◌, length, get_or, map};
     ghost use Rattle.ranges.specs.Ruled.{row_at};
-    ghost use Rattle.ranges.specs.Tables.{most};
+    ghost use Rattle.ranges.specs.Tables.{most, filled};
+    ghost use Rattle.ranges.specs.Inner.{bare};
 
     ghost row_of = { λ r. row_at r.flat.now };
 
     ghost shape = { λ r. length r.flat.now ∷ r.flat.ghost_name ∷ [] };
 
     ghost most = { λ l. most (get_or l 0 0) };
+
+    ghost cells = { λ r. r.flat.now ∷ [] };
+
+    ghost fill = { λ l rs. filled (get_or l 0 0) (map bare rs) ∷ [] };
 
     ghost plain = { λ r k. refl };
 
@@ -69,16 +72,20 @@ impl<'a> Room<Clock> for RangeRoom<'a> {
             move_down(self.flat, from, most, to);
         }
     }
+
+    fn clear_behind(&mut self, count: usize) {
+        if count <= self.capacity() {
+            clear_behind(self.flat, count);
+        }
+    }
 }
 
-// The count of the rows that a routine made, where there was room for all.
-pub(crate) fn fitted(out: &[u32], k: usize) -> Result<usize, Refusal>
-    ensures { (rs : Rows) → Holds (most (length out.now)) (row_at out.now) k rs → Wrote rs (length out.now) (remains out.now result) result }
+// Zero behind the first `count` rows.
+fn clear_behind(out: &mut [u32], count: usize)
+    requires { 2 * count ≤ length out.old }
+    ensures { out.new ≡ take (2 * count) out.old ++ replicate (length out.old - 2 * count) 0 }
 {
-    if fitting(out.len()) < k {
-        return Err(Refusal::Full);
-    }
-    Ok(k)
+    out[2 * count..].fill(0);
 }
 
 // Zero behind the rows that a routine made, or everywhere if it refused.
@@ -87,7 +94,6 @@ pub(crate) fn settled(out: &mut [u32], made: Result<usize, Refusal>) -> Result<u
     ensures same { result ≡ made }
     ensures left { out.new ≡ remains out.old made }
 {
-    let kept = made.unwrap_or(0);
-    out[2 * kept..].fill(0);
+    clear_behind(out, made.unwrap_or(0));
     made
 }

@@ -19,6 +19,15 @@ pub struct Ranges<'a> {
     ghost lined: { kinds.Ruled (λ _. 0) 4294967295 (row_at flat.now) count },
 }
 
+/// A row of a range table: the clocks start, .., end - 1. Where start is not below end it holds none, and stands in no table.
+#[derive(Clone, Copy, Debug, PartialEq, Eq, PartialOrd, Ord, Hash)]
+pub struct Row {
+    /// The first clock.
+    pub start: Clock,
+    /// One past the last clock.
+    pub end: Clock,
+}
+
 impl<'a> Ranges<'a> {
     /// The first `count` rows of `rows`, as a table.
     ///

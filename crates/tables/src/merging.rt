@@ -1,15 +1,16 @@
 //! The union of two tables: a row a step, without branches that hang on the rows. The count runs on past the room while nothing more is stored.
 
-ghost use Rattle.std.specs.Prelude.{◌≡◌, ℕ, ◌+◌, ◌*◌, ◌<◌, ◌≤◌};
+ghost use Rattle.std.specs.Prelude.{◌≡◌, ℕ, ◌+◌, ◌*◌, ◌<◌, ◌≤◌, IfOk};
 ghost use Rattle.tables.specs.Limits.{row_limit};
-ghost use Rattle.tables.specs.Answers.{Says};
+ghost use Rattle.tables.specs.Answers.{Says, Lays};
 ghost use Rattle.tables.specs.Inner.Rows.{span, combined, union};
 ghost use Rattle.tables.specs.Inner.Sweep.{Holds};
 ghost use Rattle.tables.specs.Inner.Unite.{Counted};
 ghost use Rattle.tables.specs.Inner.Kinds.{Opens, Closes};
 ghost use Rattle.tables.specs.Inner.Merge.{Picked, First, Tied, Added, Far, Going};
 
-use crate::rows::{Place, Room, Rows, Table, end_at, set_end_at, set_start_at, start_at};
+use crate::rows::{Place, Room, Rows, Table, end_at, finish, set_end_at, set_start_at, start_at};
+use varint::Refusal;
 
 // What belongs to the row that starts first, at `p` or at `q`: of two that start together, the left one.
 fn first<P: Place, X: Copy>(p: P, q: P, x: X, y: X) -> X
@@ -378,9 +379,8 @@ fn most_rows<P: Place, T: Table<P>, R: Room<P>>(a: T, b: T, out: &mut R, most: u
     }
 }
 
-/// The rows of the union of two tables, of any kind of rows: as many as there is room for, and how many there are, as [`cross`](crate::walking::cross).
-/// `merge` of yrs's range tables and id sets.
-pub fn unite<P: Place, T: Table<P>, R: Room<P>>(a: T, b: T, out: &mut R) -> usize
+// The rows of the union: as many as there is room for, and how many there are, as `cross_rows` of walking.rt.
+fn unite_rows<P: Place, T: Table<P>, R: Room<P>>(a: T, b: T, out: &mut R) -> usize
     ensures holds { Holds (R.most (R.shape out.old)) (R.row_of out.new) result (combined union (span (T.row_of a) 0 (T.count a)) (span (T.row_of b) 0 (T.count b))) }
     ensures same { R.shape out.new ≡ R.shape out.old }
 {
@@ -398,4 +398,19 @@ pub fn unite<P: Place, T: Table<P>, R: Room<P>>(a: T, b: T, out: &mut R) -> usiz
         w = turn(a, b, out, most, w);
     }
     rest(b, w.j, a, out, most, w.k, w.last)
+}
+
+/// The rows of the union of two tables, of any kind of rows: `merge` of yrs's range tables and id sets. Answers how many rows are in `out` then; behind them it
+/// is zero.
+///
+/// # Errors
+///
+/// [`Refusal::Full`] if `out` has no room for the rows. It is zero then.
+pub fn unite<P: Place, T: Table<P>, R: Room<P>>(a: T, b: T, out: &mut R) -> Result<usize, Refusal>
+    ensures lays { Lays (combined union (span (T.row_of a) 0 (T.count a)) (span (T.row_of b) 0 (T.count b))) (R.most (R.shape out.old)) (R.fill (R.shape out.old)) (R.cells out.new) result }
+    ensures holds { IfOk result (λ k. span (R.row_of out.new) 0 k ≡ combined union (span (T.row_of a) 0 (T.count a)) (span (T.row_of b) 0 (T.count b))) }
+    ensures same { R.shape out.new ≡ R.shape out.old }
+{
+    let count = unite_rows(a, b, out);
+    finish(out, count)
 }

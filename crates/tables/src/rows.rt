@@ -1,14 +1,16 @@
 //! Rows of every kind: their places, tables to be read, and room for the rows of a result. The loops over two tables stand above these traits alone.
 
-ghost use Rattle.std.specs.Prelude.{◌≡◌, ℕ, ◌+◌, ◌<◌, ◌≤◌, min, max, List};
+ghost use Rattle.std.specs.Prelude.{◌≡◌, ℕ, ◌+◌, ◌<◌, ◌≤◌, min, max, List, IfOk};
 ghost use Rattle.tables.specs.Limits.{row_limit};
-ghost use Rattle.tables.specs.Answers.{Says};
-ghost use Rattle.tables.specs.Inner.Rows.{Row};
+ghost use Rattle.tables.specs.Answers.{Says, Lays};
+ghost use Rattle.tables.specs.Inner.Rows.{Row, span};
+ghost use Rattle.tables.specs.Inner.Sweep.{Holds};
 ghost use Rattle.tables.specs.Inner.Edit.{Moved};
 ghost use Rattle.tables.specs.Inner.Kinds.{Ruled, Opens, Closes};
 ghost use Rattle.std.proofs.Common.{rules};
 
 use crate::Clock;
+use varint::Refusal;
 
 /// A place where a row can start or end: a clock, or a clock of a client.
 pub trait Place: Copy {
@@ -94,6 +96,12 @@ pub trait Room<P: Place> {
     /// How many rows fit into that, within the limit.
     ghost most: { List ℕ → ℕ };
 
+    /// Every element of what it lies in, slice by slice.
+    ghost cells: { Self → List (List ℕ) };
+
+    /// The same, with these rows in front and every later element zero.
+    ghost fill: { List ℕ → List Row → List (List ℕ) };
+
     /// How many rows fit.
     fn capacity(&self) -> usize
         ensures value { result ≡ most (shape self.now) }
@@ -112,6 +120,13 @@ pub trait Room<P: Place> {
     /// Brings the rows from `from` on down to row `to` on, if that is not behind `from`, and `from` not behind the last row that fits.
     fn move_down(&mut self, from: usize, to: usize)
         ensures moved { to ≤ from → from ≤ most (shape self.old) → Moved (row_of self.old) from (most (shape self.old)) (row_of self.old) to (row_of self.new) }
+        ensures same { shape self.new ≡ shape self.old };
+
+    /// Zeroes every element behind the first `count` rows, if as many fit.
+    fn clear_behind(&mut self, count: usize)
+        ensures cleared { count ≤ most (shape self.old) → cells self.new ≡ fill (shape self.old) (span (row_of self.old) 0 count) }
+        ensures stays { count ≤ most (shape self.old) → span (row_of self.new) 0 count ≡ span (row_of self.old) 0 count }
+        ensures kept { most (shape self.old) < count → cells self.new ≡ cells self.old }
         ensures same { shape self.new ≡ shape self.old };
 
     ghost plain: { (r : Self) (k : ℕ) → (row_of r k).weight ≡ 1 };
@@ -185,4 +200,18 @@ pub(crate) fn set_end_at<P: Place, R: Room<P>>(out: &mut R, index: usize, p: P)
 {
     let most = out.capacity();
     out.set_end(Slot { index, most }, p);
+}
+
+// The answer of a loop that has laid `count` rows: behind them every element becomes zero, or everywhere, if there is no room for so many.
+pub(crate) fn finish<P: Place, R: Room<P>>(out: &mut R, count: usize) -> Result<usize, Refusal>
+    ensures lays { (rs : List Row) → Holds (R.most (R.shape out.old)) (R.row_of out.old) count rs → Lays rs (R.most (R.shape out.old)) (R.fill (R.shape out.old)) (R.cells out.new) result }
+    ensures holds { (rs : List Row) → Holds (R.most (R.shape out.old)) (R.row_of out.old) count rs → IfOk result (λ k. span (R.row_of out.new) 0 k ≡ rs) }
+    ensures same { R.shape out.new ≡ R.shape out.old }
+{
+    if out.capacity() < count {
+        out.clear_behind(0);
+        return Err(Refusal::Full);
+    }
+    out.clear_behind(count);
+    Ok(count)
 }

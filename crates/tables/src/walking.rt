@@ -1,16 +1,18 @@
 //! The intersection of two tables, by two walks at once, from below and from above, until they meet: neither waits for the rows that the other reads next. Both lay rows in the output, and those from above are brought down at the end.
 
-ghost use Rattle.std.specs.Prelude.{◌≡◌, ℕ, ◌+◌, ◌*◌, ◌<◌, ◌≤◌, min, max};
+ghost use Rattle.std.specs.Prelude.{◌≡◌, ℕ, ◌+◌, ◌*◌, ◌<◌, ◌≤◌, min, max, IfOk};
 ghost use Rattle.tables.specs.Limits.{row_limit};
-ghost use Rattle.tables.specs.Answers.{Says};
+ghost use Rattle.tables.specs.Answers.{Says, Lays};
 ghost use Rattle.tables.specs.Inner.Rows.{Rows, span, combined, intersection};
 ghost use Rattle.tables.specs.Inner.Sweep.{Holds};
 ghost use Rattle.tables.specs.Inner.Unite.{Passed};
 ghost use Rattle.tables.specs.Inner.Cross.{Keeps};
-ghost use Rattle.tables.specs.Inner.Ends.{Stores, Dropped, Raised, Turns, Below, Above, Swept, Halves};
+ghost use Rattle.tables.specs.Inner.Edit.{Parted, starts, ends};
+ghost use Rattle.tables.specs.Inner.Ends.{Stores, Dropped, Raised, Turns, Below, Above, Swept, Halves, Clipped};
 ghost use Rattle.tables.specs.Inner.Walk.{places, Fit};
 
-use crate::rows::{Place, Room, Rows, Table, end_at, set_end_at, set_start_at, start_at};
+use crate::rows::{Place, Room, Rows, Table, end_at, finish, set_end_at, set_start_at, start_at};
+use varint::Refusal;
 
 /// The places start, .., end - 1, of one line: none if start is not below end.
 #[derive(Clone, Copy)]
@@ -216,19 +218,106 @@ pub(crate) fn settle<P: Place, R: Room<P>>(out: &mut R, most: usize, k: usize, t
     count
 }
 
-/// The rows of the intersection of two tables, of any kind of rows: as many as there is room for, and how many there are. Where they are more than `out` holds,
-/// the answer is above its capacity, and what stands in `out` is of no use. `intersect` of yrs's range tables and id sets.
-pub fn cross<P: Place, T: Table<P>, R: Room<P>>(a: T, b: T, out: &mut R) -> usize
+// How many rows end at `p` or before it: the looks go as far on each time as they have come, and then halve the rows still possible. Where the first row ends past `p`, one look says so.
+fn ended<P: Place, T: Table<P>>(table: T, p: P) -> usize
+    ensures { Parted (ends (T.row_of table)) (T.count table) (P.number p + 1) result result }
+{
+    let n = table.row_count();
+    if n == 0 {
+        return 0;
+    }
+    if p.precedes(end_at(table, 0)) {
+        return 0;
+    }
+    let mut lo = 1;
+    let mut hi = n;
+    // No `for`: no index counts the looks.
+    while lo < hi {
+        let mid = lo + lo.min((hi - lo) / 2);
+        if p.precedes(end_at(table, mid)) {
+            hi = mid;
+        } else {
+            lo = mid + 1;
+        }
+    }
+    lo
+}
+
+// How many rows start before `p`, where the first `i` do: the same from the last row down.
+fn begun<P: Place, T: Table<P>>(table: T, i: usize, p: P) -> usize
+    requires { Parted (starts (T.row_of table)) (T.count table) (P.number p) i (T.count table) }
+    ensures parted { Parted (starts (T.row_of table)) (T.count table) (P.number p) result result }
+    ensures lower { i ≤ result }
+{
+    let n = table.row_count();
+    if n <= i {
+        return i;
+    }
+    if start_at(table, n - 1).precedes(p) {
+        return n;
+    }
+    let mut lo = i;
+    let mut hi = n - 1;
+    // No `for`: no index counts the looks.
+    while lo < hi {
+        let mid = hi - 1 - (n - hi).min((hi - lo) / 2);
+        if start_at(table, mid).precedes(p) {
+            lo = mid + 1;
+        } else {
+            hi = mid;
+        }
+    }
+    lo
+}
+
+// Where the walks begin: rows before all those of the other table, or behind them, are left out.
+fn bounds<P: Place, T: Table<P>>(a: T, b: T, most: usize) -> Walks
+    ensures clipped { Clipped (T.row_of a) (T.count a) (T.row_of b) (T.count b) result.low.i result.low.j result.high.u result.high.v }
+    ensures none { (result.low.k ≡ 0) × (result.high.t ≡ most) }
+{
+    let n = a.row_count();
+    let m = b.row_count();
+    let all = High {
+        u: n,
+        v: m,
+        t: most,
+    };
+    if m == 0 {
+        return Walks {
+            low: Low { i: 0, j: 0, k: 0 },
+            high: all,
+        };
+    }
+    let i = ended(a, start_at(b, 0));
+    if n <= i {
+        return Walks {
+            low: Low { i, j: 0, k: 0 },
+            high: all,
+        };
+    }
+    let j = ended(b, start_at(a, i));
+    let low = Low { i, j, k: 0 };
+    if m <= j {
+        return Walks { low, high: all };
+    }
+    let u = begun(a, i, end_at(b, m - 1));
+    let v = begun(b, j, end_at(a, u - 1));
+    Walks {
+        low,
+        high: High { u, v, t: most },
+    }
+}
+
+// The rows of the intersection: as many as there is room for, and how many there are. Where they are more than `out` holds, the answer is above its capacity, and
+// what stands in `out` is of no use.
+fn cross_rows<P: Place, T: Table<P>, R: Room<P>>(a: T, b: T, out: &mut R) -> usize
     ensures holds { Holds (R.most (R.shape out.old)) (R.row_of out.new) result (combined intersection (span (T.row_of a) 0 (T.count a)) (span (T.row_of b) 0 (T.count b))) }
     ensures same { R.shape out.new ≡ R.shape out.old }
 {
     let most = out.capacity();
-    let mut low = Low { i: 0, j: 0, k: 0 };
-    let mut high = High {
-        u: a.row_count(),
-        v: b.row_count(),
-        t: most,
-    };
+    let from = bounds(a, b, most);
+    let mut low = from.low;
+    let mut high = from.high;
     let mut c = turns(low, high);
     // No `for`: each run takes as many turns as surely fit, and then two indices move or stay by the rows.
     'both: while 0 < c {
@@ -241,4 +330,19 @@ pub fn cross<P: Place, T: Table<P>, R: Room<P>>(a: T, b: T, out: &mut R) -> usiz
         low = up(out, high.t, low, row_at(a, low.i), row_at(b, low.j));
     }
     settle(out, most, low.k, high.t)
+}
+
+/// The rows of the intersection of two tables, of any kind of rows: `intersect` of yrs's range tables and id sets. Answers how many rows are in `out` then; behind
+/// them it is zero.
+///
+/// # Errors
+///
+/// As [`unite`](crate::merging::unite).
+pub fn cross<P: Place, T: Table<P>, R: Room<P>>(a: T, b: T, out: &mut R) -> Result<usize, Refusal>
+    ensures lays { Lays (combined intersection (span (T.row_of a) 0 (T.count a)) (span (T.row_of b) 0 (T.count b))) (R.most (R.shape out.old)) (R.fill (R.shape out.old)) (R.cells out.new) result }
+    ensures holds { IfOk result (λ k. span (R.row_of out.new) 0 k ≡ combined intersection (span (T.row_of a) 0 (T.count a)) (span (T.row_of b) 0 (T.count b))) }
+    ensures same { R.shape out.new ≡ R.shape out.old }
+{
+    let count = cross_rows(a, b, out);
+    finish(out, count)
 }

@@ -67,6 +67,8 @@ pub trait Integer: Copy {
         ensures fits { mag (int self) < 2 ^ (bits - 1) };
 
     ghost at_most: { bits ≤ 64 };
+
+    ghost one: { (x y : Self) → int x ≡ int y → x ≡ y };
 }
 
 impl Integer for i64 {
@@ -83,6 +85,8 @@ impl Integer for i64 {
     }
 
     ghost at_most = { leb-true 64 64 refl };
+
+    ghost one = { λ x y same. same };
 }
 
 impl Integer for isize {
@@ -99,6 +103,8 @@ impl Integer for isize {
     }
 
     ghost at_most = { leb-true 64 64 refl };
+
+    ghost one = { λ x y same. same };
 }
 
 impl Integer for i32 {
@@ -115,6 +121,8 @@ impl Integer for i32 {
     }
 
     ghost at_most = { leb-true 32 64 refl };
+
+    ghost one = { λ x y same. same };
 }
 
 impl Integer for i16 {
@@ -131,6 +139,8 @@ impl Integer for i16 {
     }
 
     ghost at_most = { leb-true 16 64 refl };
+
+    ghost one = { λ x y same. same };
 }
 
 impl Integer for i8 {
@@ -147,6 +157,8 @@ impl Integer for i8 {
     }
 
     ghost at_most = { leb-true 8 64 refl };
+
+    ghost one = { λ x y same. same };
 }
 
 /// Reads a number with its sign flag. It is read as an `i64`, and then narrowed.

@@ -33,6 +33,8 @@ pub trait Unsigned: Copy {
     ghost at_least: { 32 ≤ bits };
 
     ghost at_most: { bits ≤ 64 };
+
+    ghost one: { (x y : Self) → number x ≡ number y → x ≡ y };
 }
 
 impl Unsigned for u64 {
@@ -55,6 +57,8 @@ impl Unsigned for u64 {
     ghost at_least = { leb-true 32 64 refl };
 
     ghost at_most = { leb-true 64 64 refl };
+
+    ghost one = { λ x y same. same };
 }
 
 impl Unsigned for u32 {
@@ -77,6 +81,8 @@ impl Unsigned for u32 {
     ghost at_least = { leb-true 32 32 refl };
 
     ghost at_most = { leb-true 32 64 refl };
+
+    ghost one = { λ x y same. same };
 }
 
 /// Reads a number at a place. Most numbers are one byte: it is answered at once. One of two to five bytes is read without a jump for each: the

@@ -2,6 +2,7 @@
 #![tactic(auto)]
 
 ghost use Rattle.std.specs.Prelude.{◌≡◌, ℕ, ℤ, pos, false, List, IfOk};
+ghost use Rattle.std.proofs.Common.{nat_abs, ap};
 ghost use Rattle.varint.specs.Number.{read_at, narrowed, bytes_of, write_at};
 ghost use Rattle.varint.specs.Integer.{IntAnswer, signed_at, plain, fitting, int_bytes};
 ghost use Rattle.varint.specs.Answer.{said_int, plain_int, wrote};
@@ -32,6 +33,8 @@ pub trait VarInt: Copy {
     fn write(self, buf: &mut [u8], at: usize) -> Result<usize, Refusal>
         ensures wrote { wrote at result buf.new ≡ write_at (spelled self) buf.old at }
         ensures back { IfOk result (λ p. read_gives buf.new at ≡ record { no = 0; value = int self; negative = false; place = p }) };
+
+    ghost one: { (x y : Self) → int x ≡ int y → x ≡ y };
 }
 
 impl VarInt for u64 {
@@ -48,6 +51,8 @@ impl VarInt for u64 {
     fn write(self, buf: &mut [u8], at: usize) -> Result<usize, Refusal> {
         write_u64(self, buf, at)
     }
+
+    ghost one = { λ x y same. ap nat_abs same };
 }
 
 impl VarInt for usize {
@@ -64,6 +69,8 @@ impl VarInt for usize {
     fn write(self, buf: &mut [u8], at: usize) -> Result<usize, Refusal> {
         write_u64(self as u64, buf, at)
     }
+
+    ghost one = { λ x y same. ap nat_abs same };
 }
 
 impl VarInt for u32 {
@@ -80,6 +87,8 @@ impl VarInt for u32 {
     fn write(self, buf: &mut [u8], at: usize) -> Result<usize, Refusal> {
         write_u64(self as u64, buf, at)
     }
+
+    ghost one = { λ x y same. ap nat_abs same };
 }
 
 impl VarInt for u8 {
@@ -96,6 +105,8 @@ impl VarInt for u8 {
     fn write(self, buf: &mut [u8], at: usize) -> Result<usize, Refusal> {
         write_u64(self as u64, buf, at)
     }
+
+    ghost one = { λ x y same. ap nat_abs same };
 }
 
 impl<T: Integer> VarInt for T {
@@ -112,4 +123,6 @@ impl<T: Integer> VarInt for T {
     fn write(self, buf: &mut [u8], at: usize) -> Result<usize, Refusal> {
         write_i64(self.wide(), buf, at)
     }
+
+    ghost one = { T.one };
 }

@@ -1,21 +1,17 @@
--- A refusal is handed on; else the rows that were found are the result, as many as there is room for.
-use mathlib.Core.Path.{ap, sym}
-use Rattle.tables.proofs.Joins.{holds_in}
-use Rattle.ids.specs.Lines.{most_of}
-use Rattle.ids.specs.Room.{made, refused}
+-- A refusal is handed on, and all is zero; else the result is laid.
+use Rattle.ids.specs.Room.{laid, denied}
 use Rattle.ids.proofs.Laying.{same_shape}
-use Rattle.ids.proofs.Answering.{err_is, both_ok, both_first, both_second}
+use Rattle.ids.proofs.Answering.{both_ok, both_first, both_second}
 use Rattle.ids.proofs.walks.differed.Goals as goal
 
-pub returns-in_err-a-clause-made : goal.returns-in_err-a-clause-made
-returns-in_err-a-clause-made c = refused _ (both_first _ c.in_err-a.was) (err_is _ _ c.from_residual.ensures)
+pub returns-in-Err-clause-laid : goal.returns-in-Err-clause-laid
+returns-in-Err-clause-laid c = denied _ (both_first _ c.in-Err.is) c.settled.ensures.made c.settled.ensures.zeroed
 
-pub returns-in_err-b-clause-made : goal.returns-in_err-b-clause-made
-returns-in_err-b-clause-made c = refused _ (both_second c.in_ok-a.was c.in_err-b.was) (err_is _ _ c.from_residual-in_err-b.ensures)
+pub returns-in-Err-b-clause-laid : goal.returns-in-Err-b-clause-laid
+returns-in-Err-b-clause-laid c = denied _ (both_second c.in-Ok.is c.in-Err-b.is) c.settled-in-Err-b.ensures.made c.settled-in-Err-b.ensures.zeroed
 
-pub returns-clause-made : goal.returns-clause-made
-returns-clause-made c =
-    made (c.in_ok-a.field-0, c.in_ok-b.field-0) _ (both_ok c.in_ok-a.was c.in_ok-b.was) (holds_in (ap most_of (sym c.differ-count.ensures.same)) c.differ-count.ensures.holds) c.fitted.ensures
+pub returns-clause-laid : goal.returns-clause-laid
+returns-clause-laid c = laid (c.in-Ok.a, c.in-Ok-b.b) (both_ok c.in-Ok.is c.in-Ok-b.is) c.differ.ensures.lays
 
 pub returns-clause-same : goal.returns-clause-same
-returns-clause-same c = same_shape c.differ-count.ensures.same
+returns-clause-same c = same_shape c.differ.ensures.same

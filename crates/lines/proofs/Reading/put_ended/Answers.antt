@@ -1,11 +1,11 @@
 use Rattle.lines.proofs.Loops.{bytes}
 use Rattle.lines.proofs.Reading.put_ended.Goals as goal
 
-pub returns-then-is_ascii_digit : goal.returns-then-is_ascii_digit
-returns-then-is_ascii_digit c = search bytes
+pub returns-then-is_ascii_digit-clause-put : goal.returns-then-is_ascii_digit-clause-put
+returns-then-is_ascii_digit-clause-put c = search bytes
 
-pub returns-then-self : goal.returns-then-self
-returns-then-self c = search bytes
+pub returns-then-self-clause-put : goal.returns-then-self-clause-put
+returns-then-self-clause-put c = search bytes
 
-pub returns-else-self : goal.returns-else-self
-returns-else-self c = search bytes
+pub returns-else-self-clause-put : goal.returns-else-self-clause-put
+returns-else-self-clause-put c = search bytes

@@ -1,8 +1,8 @@
 use Rattle.lines.proofs.Putting.{putting}
 use Rattle.lines.proofs.Room.put.Goals as goal
 
-pub returns-then-self : goal.returns-then-self
-returns-then-self g c = search putting
+pub returns-then-self-clause-put : goal.returns-then-self-clause-put
+returns-then-self-clause-put g c = search putting
 
-pub returns-else-self : goal.returns-else-self
-returns-else-self g c = search putting
+pub returns-else-self-clause-put : goal.returns-else-self-clause-put
+returns-else-self-clause-put g c = search putting

@@ -1,7 +1,14 @@
--- What was made is settled.
-use Rattle.ranges.specs.Tables.{Merged}
-use Rattle.ranges.proofs.Writing.{settles}
+-- Malformed, and all is zero; or the rows of the union are laid, if there is room.
+use Rattle.std.proofs.Common.{rules}
+use Rattle.tables.proofs.Sets.{union_means}
+use Rattle.ranges.proofs.Writing.{zeroed, finished}
 use Rattle.ranges.proofs.combine.merge.Goals as goal
 
+pub returns-in-Err : goal.returns-in-Err
+returns-in-Err c = zeroed _ (c.in-Err.ensures.0, λ t. c.in-Err.ensures.1 t.0) c.settled.ensures.same c.settled.ensures.left
+
+pub returns-in-Err-checked : goal.returns-in-Err-checked
+returns-in-Err-checked c = zeroed _ (c.in-Err-checked.ensures.0, λ t. c.in-Err-checked.ensures.1 t.1) c.settled-in-Err-checked.ensures.same c.settled-in-Err-checked.ensures.left
+
 pub returns : goal.returns
-returns c = settles (Merged _ _ _ _ _) _ c.merged-made.ensures c.settled.ensures.same c.settled.ensures.left
+returns c = finished _ c.unite.result union_means c.in-Ok.ensures c.in-Ok-checked.ensures c.unite.ensures.lays (search rules)

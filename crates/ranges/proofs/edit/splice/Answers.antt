@@ -22,8 +22,8 @@ overflow_add-k-3 c = omega (arith, sized _ _ c.size.ensures, sized _ _ c.size-2.
 pub returns-then-fitting-k : goal.returns-then-fitting-k
 returns-then-fitting-k c =
     let a = c.args in
-    wrote_full a.out.now (a.i + length (range a.p.start a.p.end) + length (range a.q.start a.q.end) + (a.table.count - a.j)) (omega (arith, c.fitting.ensures, c.size.ensures, c.size-2.ensures)) _
-    (laid_over _ (row_at a.table.flat.now) a.i a.j a.table.count (range a.p.start a.p.end) (range a.q.start a.q.end) (omega (arith, c.fitting.ensures)) (omega (arith, c.size.ensures, c.size-2.ensures)))
+    wrote_full a.out.now (a.i + length (range a.p.start.0 a.p.end.0) + length (range a.q.start.0 a.q.end.0) + (a.table.count - a.j)) (omega (arith, c.fitting.ensures, c.size.ensures, c.size-2.ensures)) _
+    (laid_over _ (row_at a.table.flat.now) a.i a.j a.table.count (range a.p.start.0 a.p.end.0) (range a.q.start.0 a.q.end.0) (omega (arith, c.fitting.ensures)) (omega (arith, c.size.ensures, c.size-2.ensures)))
 
 pub returns : goal.returns
 returns c =
