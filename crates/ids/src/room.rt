@@ -7,7 +7,7 @@ ghost use Rattle.ids.specs.Room.{lent, Same, kept};
 
 use crate::place::Id;
 use crate::view::fitting;
-use tables::rows::{Room, Slot};
+use tables::rows::{Room, Slot, WholeRoom};
 use varint::Refusal;
 
 /// Three lent slices for the rows of a result.
@@ -63,17 +63,13 @@ impl<'a> IdRoom<'a> {
 impl<'a> Room<Id> for IdRoom<'a> {
     ghost use Rattle.std.proofs.Common.{refl};
     ghost use Rattle.ids.specs.Room.{lent, lent_row};
-    ghost use Rattle.ids.specs.Lines.{shape_of, most_of, cells_of, fill_of};
+    ghost use Rattle.ids.specs.Lines.{shape_of, most_of};
 
     ghost row_of = { λ o. lent_row (lent o) };
 
     ghost shape = { shape_of };
 
     ghost most = { most_of };
-
-    ghost cells = { cells_of };
-
-    ghost fill = { fill_of };
 
     ghost plain = { λ o k. refl };
 
@@ -106,6 +102,14 @@ impl<'a> Room<Id> for IdRoom<'a> {
             self.ends.copy_within(from..most, to);
         }
     }
+}
+
+impl<'a> WholeRoom<Id> for IdRoom<'a> {
+    ghost use Rattle.ids.specs.Lines.{cells_of, fill_of};
+
+    ghost cells = { cells_of };
+
+    ghost fill = { fill_of };
 
     fn clear_behind(&mut self, count: usize) {
         if count <= self.capacity() {

@@ -7,9 +7,9 @@ ghost use Rattle.ids.specs.Room.{lent, Same, Laid, both};
 
 use crate::room::IdRoom;
 use crate::view::Ids;
-use tables::difference::differ;
-use tables::merging::unite;
-use tables::walking::cross;
+use tables::difference::lay_difference;
+use tables::merging::lay_union;
+use tables::walking::lay_intersection;
 use varint::Refusal;
 
 /// The union of two tables, laid in a room, if there is room for it.
@@ -29,7 +29,7 @@ pub(crate) fn united(
         Ok(b) => b,
         Err(e) => return out.settled(Err(e)),
     };
-    unite(a, b, out)
+    lay_union(a, b, out)
 }
 
 /// The difference of two tables, laid in a room, if there is room for it.
@@ -49,7 +49,7 @@ pub(crate) fn differed(
         Ok(b) => b,
         Err(e) => return out.settled(Err(e)),
     };
-    differ(a, b, out)
+    lay_difference(a, b, out)
 }
 
 /// The intersection of two tables, laid in a room, if there is room for it.
@@ -69,5 +69,5 @@ pub(crate) fn crossed(
         Ok(b) => b,
         Err(e) => return out.settled(Err(e)),
     };
-    cross(a, b, out)
+    lay_intersection(a, b, out)
 }

@@ -18,8 +18,23 @@ pub trait Answers {
     ///
     /// # Errors
     /// [`AllocError`] where there is no memory.
+    fn answer(&self, letter: u8, numbers: Numbers, said: &mut Room<u64>) -> Result<(), AllocError>;
+}
+
+/// The same, said in the memory that the room has: whoever lends it knows that the answer stands there.
+pub trait AnswersInPlace {
+    /// Says the answer to a line, by its letter and its numbers.
+    ///
+    /// # Errors
+    /// [`AllocError`] where there is no memory.
     fn answer(&self, letter: u8, numbers: Numbers, said: &mut Room<u64>) -> Result<(), AllocError>
         ensures { Same said.old.memory said.new.memory };
+}
+
+impl<A: AnswersInPlace> Answers for A {
+    fn answer(&self, letter: u8, numbers: Numbers, said: &mut Room<u64>) -> Result<(), AllocError> {
+        AnswersInPlace::answer(self, letter, numbers, said)
+    }
 }
 
 /// Answers the lines of the whole input, each by one line, behind what the output has. `space` holds one block after the other.

@@ -4,7 +4,7 @@ ghost use Rattle.tables.specs.Inner.Edit.{Moved};
 ghost use Rattle.ranges.specs.Tables.{most};
 ghost use Rattle.ranges.specs.Inner.{row_at, remains};
 
-use tables::rows::{Room, Slot};
+use tables::rows::{Room, Slot, WholeRoom};
 use tables::{Clock, ROW_LIMIT};
 use varint::Refusal;
 
@@ -33,20 +33,15 @@ pub(crate) struct RangeRoom<'a> {
 
 impl<'a> Room<Clock> for RangeRoom<'a> {
     ghost use Rattle.std.proofs.Common.{refl};
-    ghost use Rattle.std.specs.Prelude.{[], ◌∷◌, length, get_or, map};
+    ghost use Rattle.std.specs.Prelude.{[], ◌∷◌, length, get_or};
     ghost use Rattle.ranges.specs.Ruled.{row_at};
-    ghost use Rattle.ranges.specs.Tables.{most, filled};
-    ghost use Rattle.ranges.specs.Inner.{bare};
+    ghost use Rattle.ranges.specs.Tables.{most};
 
     ghost row_of = { λ r. row_at r.flat.now };
 
     ghost shape = { λ r. length r.flat.now ∷ r.flat.ghost_name ∷ [] };
 
     ghost most = { λ l. most (get_or l 0 0) };
-
-    ghost cells = { λ r. r.flat.now ∷ [] };
-
-    ghost fill = { λ l rs. filled (get_or l 0 0) (map bare rs) ∷ [] };
 
     ghost plain = { λ r k. refl };
 
@@ -72,6 +67,16 @@ impl<'a> Room<Clock> for RangeRoom<'a> {
             move_down(self.flat, from, most, to);
         }
     }
+}
+
+impl<'a> WholeRoom<Clock> for RangeRoom<'a> {
+    ghost use Rattle.std.specs.Prelude.{[], ◌∷◌, get_or, map};
+    ghost use Rattle.ranges.specs.Tables.{filled};
+    ghost use Rattle.ranges.specs.Inner.{bare};
+
+    ghost cells = { λ r. r.flat.now ∷ [] };
+
+    ghost fill = { λ l rs. filled (get_or l 0 0) (map bare rs) ∷ [] };
 
     fn clear_behind(&mut self, count: usize) {
         if count <= self.capacity() {

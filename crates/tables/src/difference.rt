@@ -9,7 +9,7 @@ ghost use Rattle.tables.specs.Inner.Differ.{GapStart, GapEnd};
 ghost use Rattle.tables.specs.Inner.Ends.{Inside, GapsFrom, GapsTo};
 ghost use Rattle.tables.specs.Inner.Walk.{between_rows};
 
-use crate::rows::{Place, Room, Rows, Slot, Table, end_at, finish, start_at};
+use crate::rows::{Place, Room, Rows, Slot, Table, WholeRoom, end_at, finish, start_at};
 use crate::walking::{High, Low, Piece, between, down, row_at, settle, sweep, turns, up};
 use varint::Refusal;
 
@@ -145,9 +145,9 @@ fn gaps_to<P: Place, T: Table<P>>(b: T) -> usize
     m
 }
 
-// The rows of the difference: as many as there is room for, and how many there are, as `cross_rows` of walking.rt. The gaps at either end go step by step, those
-// inside in turns of both walks.
-fn differ_rows<P: Place, T: Table<P>, R: Room<P>>(a: T, b: T, out: &mut R) -> usize
+/// The rows of the difference of two tables, of any kind of rows: as many as there is room for, and how many there are, as [`cross`](crate::walking::cross).
+/// The gaps at either end go step by step, those inside in turns of both walks. `exclude` of yrs's range tables, `diff` of its id sets.
+pub fn differ<P: Place, T: Table<P>, R: Room<P>>(a: T, b: T, out: &mut R) -> usize
     ensures holds { Holds (R.most (R.shape out.old)) (R.row_of out.new) result (combined difference (span (T.row_of a) 0 (T.count a)) (span (T.row_of b) 0 (T.count b))) }
     ensures same { R.shape out.new ≡ R.shape out.old }
 {
@@ -200,17 +200,20 @@ fn differ_rows<P: Place, T: Table<P>, R: Room<P>>(a: T, b: T, out: &mut R) -> us
     settle(out, most, low.k, high.t)
 }
 
-/// The rows of the difference of two tables, of any kind of rows: `exclude` of yrs's range tables, `diff` of its id sets. Answers how many rows are in `out` then;
-/// behind them it is zero.
+/// The difference of two tables, of any kind of rows, laid in `out`: the rows of [`differ`]. Answers how many rows are in `out` then; behind them it is zero.
 ///
 /// # Errors
 ///
-/// As [`unite`](crate::merging::unite).
-pub fn differ<P: Place, T: Table<P>, R: Room<P>>(a: T, b: T, out: &mut R) -> Result<usize, Refusal>
+/// As [`lay_union`](crate::merging::lay_union).
+pub fn lay_difference<P: Place, T: Table<P>, R: WholeRoom<P>>(
+    a: T,
+    b: T,
+    out: &mut R,
+) -> Result<usize, Refusal>
     ensures lays { Lays (combined difference (span (T.row_of a) 0 (T.count a)) (span (T.row_of b) 0 (T.count b))) (R.most (R.shape out.old)) (R.fill (R.shape out.old)) (R.cells out.new) result }
     ensures holds { IfOk result (λ k. span (R.row_of out.new) 0 k ≡ combined difference (span (T.row_of a) 0 (T.count a)) (span (T.row_of b) 0 (T.count b))) }
     ensures same { R.shape out.new ≡ R.shape out.old }
 {
-    let count = differ_rows(a, b, out);
+    let count = differ(a, b, out);
     finish(out, count)
 }

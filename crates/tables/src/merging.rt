@@ -9,7 +9,9 @@ ghost use Rattle.tables.specs.Inner.Unite.{Counted};
 ghost use Rattle.tables.specs.Inner.Kinds.{Opens, Closes};
 ghost use Rattle.tables.specs.Inner.Merge.{Picked, First, Tied, Added, Far, Going};
 
-use crate::rows::{Place, Room, Rows, Table, end_at, finish, set_end_at, set_start_at, start_at};
+use crate::rows::{
+    Place, Room, Rows, Table, WholeRoom, end_at, finish, set_end_at, set_start_at, start_at,
+};
 use varint::Refusal;
 
 // What belongs to the row that starts first, at `p` or at `q`: of two that start together, the left one.
@@ -379,8 +381,9 @@ fn most_rows<P: Place, T: Table<P>, R: Room<P>>(a: T, b: T, out: &mut R, most: u
     }
 }
 
-// The rows of the union: as many as there is room for, and how many there are, as `cross_rows` of walking.rt.
-fn unite_rows<P: Place, T: Table<P>, R: Room<P>>(a: T, b: T, out: &mut R) -> usize
+/// The rows of the union of two tables, of any kind of rows: as many as there is room for, and how many there are, as [`cross`](crate::walking::cross).
+/// `merge` of yrs's range tables and id sets.
+pub fn unite<P: Place, T: Table<P>, R: Room<P>>(a: T, b: T, out: &mut R) -> usize
     ensures holds { Holds (R.most (R.shape out.old)) (R.row_of out.new) result (combined union (span (T.row_of a) 0 (T.count a)) (span (T.row_of b) 0 (T.count b))) }
     ensures same { R.shape out.new ≡ R.shape out.old }
 {
@@ -400,17 +403,20 @@ fn unite_rows<P: Place, T: Table<P>, R: Room<P>>(a: T, b: T, out: &mut R) -> usi
     rest(b, w.j, a, out, most, w.k, w.last)
 }
 
-/// The rows of the union of two tables, of any kind of rows: `merge` of yrs's range tables and id sets. Answers how many rows are in `out` then; behind them it
-/// is zero.
+/// The union of two tables, of any kind of rows, laid in `out`: the rows of [`unite`]. Answers how many rows are in `out` then; behind them it is zero.
 ///
 /// # Errors
 ///
 /// [`Refusal::Full`] if `out` has no room for the rows. It is zero then.
-pub fn unite<P: Place, T: Table<P>, R: Room<P>>(a: T, b: T, out: &mut R) -> Result<usize, Refusal>
+pub fn lay_union<P: Place, T: Table<P>, R: WholeRoom<P>>(
+    a: T,
+    b: T,
+    out: &mut R,
+) -> Result<usize, Refusal>
     ensures lays { Lays (combined union (span (T.row_of a) 0 (T.count a)) (span (T.row_of b) 0 (T.count b))) (R.most (R.shape out.old)) (R.fill (R.shape out.old)) (R.cells out.new) result }
     ensures holds { IfOk result (λ k. span (R.row_of out.new) 0 k ≡ combined union (span (T.row_of a) 0 (T.count a)) (span (T.row_of b) 0 (T.count b))) }
     ensures same { R.shape out.new ≡ R.shape out.old }
 {
-    let count = unite_rows(a, b, out);
+    let count = unite(a, b, out);
     finish(out, count)
 }

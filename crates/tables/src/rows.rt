@@ -96,12 +96,6 @@ pub trait Room<P: Place> {
     /// How many rows fit into that, within the limit.
     ghost most: { List ℕ → ℕ };
 
-    /// Every element of what it lies in, slice by slice.
-    ghost cells: { Self → List (List ℕ) };
-
-    /// The same, with these rows in front and every later element zero.
-    ghost fill: { List ℕ → List Row → List (List ℕ) };
-
     /// How many rows fit.
     fn capacity(&self) -> usize
         ensures value { result ≡ most (shape self.now) }
@@ -122,14 +116,23 @@ pub trait Room<P: Place> {
         ensures moved { to ≤ from → from ≤ most (shape self.old) → Moved (row_of self.old) from (most (shape self.old)) (row_of self.old) to (row_of self.new) }
         ensures same { shape self.new ≡ shape self.old };
 
+    ghost plain: { (r : Self) (k : ℕ) → (row_of r k).weight ≡ 1 };
+}
+
+/// Room of which every element is told, those behind the rows too.
+pub trait WholeRoom<P: Place>: Room<P> {
+    /// Every element of what it lies in, slice by slice.
+    ghost cells: { Self → List (List ℕ) };
+
+    /// What lies in slices of these lengths, with these rows in front and every later element zero.
+    ghost fill: { List ℕ → List Row → List (List ℕ) };
+
     /// Zeroes every element behind the first `count` rows, if as many fit.
     fn clear_behind(&mut self, count: usize)
-        ensures cleared { count ≤ most (shape self.old) → cells self.new ≡ fill (shape self.old) (span (row_of self.old) 0 count) }
-        ensures stays { count ≤ most (shape self.old) → span (row_of self.new) 0 count ≡ span (row_of self.old) 0 count }
-        ensures kept { most (shape self.old) < count → cells self.new ≡ cells self.old }
-        ensures same { shape self.new ≡ shape self.old };
-
-    ghost plain: { (r : Self) (k : ℕ) → (row_of r k).weight ≡ 1 };
+        ensures cleared { count ≤ Self.most (Self.shape self.old) → cells self.new ≡ fill (Self.shape self.old) (span (Self.row_of self.old) 0 count) }
+        ensures stays { count ≤ Self.most (Self.shape self.old) → span (Self.row_of self.new) 0 count ≡ span (Self.row_of self.old) 0 count }
+        ensures kept { Self.most (Self.shape self.old) < count → cells self.new ≡ cells self.old }
+        ensures same { Self.shape self.new ≡ Self.shape self.old };
 }
 
 impl Place for Clock {
@@ -203,7 +206,7 @@ pub(crate) fn set_end_at<P: Place, R: Room<P>>(out: &mut R, index: usize, p: P)
 }
 
 // The answer of a loop that has laid `count` rows: behind them every element becomes zero, or everywhere, if there is no room for so many.
-pub(crate) fn finish<P: Place, R: Room<P>>(out: &mut R, count: usize) -> Result<usize, Refusal>
+pub(crate) fn finish<P: Place, R: WholeRoom<P>>(out: &mut R, count: usize) -> Result<usize, Refusal>
     ensures lays { (rs : List Row) → Holds (R.most (R.shape out.old)) (R.row_of out.old) count rs → Lays rs (R.most (R.shape out.old)) (R.fill (R.shape out.old)) (R.cells out.new) result }
     ensures holds { (rs : List Row) → Holds (R.most (R.shape out.old)) (R.row_of out.old) count rs → IfOk result (λ k. span (R.row_of out.new) 0 k ≡ rs) }
     ensures same { R.shape out.new ≡ R.shape out.old }

@@ -11,7 +11,9 @@ ghost use Rattle.tables.specs.Inner.Edit.{Parted, starts, ends};
 ghost use Rattle.tables.specs.Inner.Ends.{Stores, Dropped, Raised, Turns, Below, Above, Swept, Halves, Clipped};
 ghost use Rattle.tables.specs.Inner.Walk.{places, Fit};
 
-use crate::rows::{Place, Room, Rows, Table, end_at, finish, set_end_at, set_start_at, start_at};
+use crate::rows::{
+    Place, Room, Rows, Table, WholeRoom, end_at, finish, set_end_at, set_start_at, start_at,
+};
 use varint::Refusal;
 
 /// The places start, .., end - 1, of one line: none if start is not below end.
@@ -308,9 +310,9 @@ fn bounds<P: Place, T: Table<P>>(a: T, b: T, most: usize) -> Walks
     }
 }
 
-// The rows of the intersection: as many as there is room for, and how many there are. Where they are more than `out` holds, the answer is above its capacity, and
-// what stands in `out` is of no use.
-fn cross_rows<P: Place, T: Table<P>, R: Room<P>>(a: T, b: T, out: &mut R) -> usize
+/// The rows of the intersection of two tables, of any kind of rows: as many as there is room for, and how many there are. Where they are more than `out` holds,
+/// the answer is above its capacity, and what stands in `out` is of no use. `intersect` of yrs's range tables and id sets.
+pub fn cross<P: Place, T: Table<P>, R: Room<P>>(a: T, b: T, out: &mut R) -> usize
     ensures holds { Holds (R.most (R.shape out.old)) (R.row_of out.new) result (combined intersection (span (T.row_of a) 0 (T.count a)) (span (T.row_of b) 0 (T.count b))) }
     ensures same { R.shape out.new ≡ R.shape out.old }
 {
@@ -332,17 +334,20 @@ fn cross_rows<P: Place, T: Table<P>, R: Room<P>>(a: T, b: T, out: &mut R) -> usi
     settle(out, most, low.k, high.t)
 }
 
-/// The rows of the intersection of two tables, of any kind of rows: `intersect` of yrs's range tables and id sets. Answers how many rows are in `out` then; behind
-/// them it is zero.
+/// The intersection of two tables, of any kind of rows, laid in `out`: the rows of [`cross`]. Answers how many rows are in `out` then; behind them it is zero.
 ///
 /// # Errors
 ///
-/// As [`unite`](crate::merging::unite).
-pub fn cross<P: Place, T: Table<P>, R: Room<P>>(a: T, b: T, out: &mut R) -> Result<usize, Refusal>
+/// As [`lay_union`](crate::merging::lay_union).
+pub fn lay_intersection<P: Place, T: Table<P>, R: WholeRoom<P>>(
+    a: T,
+    b: T,
+    out: &mut R,
+) -> Result<usize, Refusal>
     ensures lays { Lays (combined intersection (span (T.row_of a) 0 (T.count a)) (span (T.row_of b) 0 (T.count b))) (R.most (R.shape out.old)) (R.fill (R.shape out.old)) (R.cells out.new) result }
     ensures holds { IfOk result (λ k. span (R.row_of out.new) 0 k ≡ combined intersection (span (T.row_of a) 0 (T.count a)) (span (T.row_of b) 0 (T.count b))) }
     ensures same { R.shape out.new ≡ R.shape out.old }
 {
-    let count = cross_rows(a, b, out);
+    let count = cross(a, b, out);
     finish(out, count)
 }

@@ -67,8 +67,6 @@ pub trait Integer: Copy {
         ensures fits { mag (int self) < 2 ^ (bits - 1) };
 
     ghost at_most: { bits ≤ 64 };
-
-    ghost one: { (x y : Self) → int x ≡ int y → x ≡ y };
 }
 
 impl Integer for i64 {
@@ -85,8 +83,6 @@ impl Integer for i64 {
     }
 
     ghost at_most = { leb-true 64 64 refl };
-
-    ghost one = { λ x y same. same };
 }
 
 impl Integer for isize {
@@ -103,8 +99,6 @@ impl Integer for isize {
     }
 
     ghost at_most = { leb-true 64 64 refl };
-
-    ghost one = { λ x y same. same };
 }
 
 impl Integer for i32 {
@@ -121,8 +115,6 @@ impl Integer for i32 {
     }
 
     ghost at_most = { leb-true 32 64 refl };
-
-    ghost one = { λ x y same. same };
 }
 
 impl Integer for i16 {
@@ -139,8 +131,6 @@ impl Integer for i16 {
     }
 
     ghost at_most = { leb-true 16 64 refl };
-
-    ghost one = { λ x y same. same };
 }
 
 impl Integer for i8 {
@@ -157,7 +147,30 @@ impl Integer for i8 {
     }
 
     ghost at_most = { leb-true 8 64 refl };
+}
 
+/// A width whose values are told apart by their numbers, so that what is read at it is determined.
+pub trait DistinctInteger: Integer {
+    ghost one: { (x y : Self) → Self.int x ≡ Self.int y → x ≡ y };
+}
+
+impl DistinctInteger for i64 {
+    ghost one = { λ x y same. same };
+}
+
+impl DistinctInteger for isize {
+    ghost one = { λ x y same. same };
+}
+
+impl DistinctInteger for i32 {
+    ghost one = { λ x y same. same };
+}
+
+impl DistinctInteger for i16 {
+    ghost one = { λ x y same. same };
+}
+
+impl DistinctInteger for i8 {
     ghost one = { λ x y same. same };
 }
 
@@ -378,4 +391,52 @@ pub fn write_i8(value: i8, buf: &mut [u8], at: usize) -> Result<usize, Refusal>
     ensures { wrote at result buf.new ≡ write_at (int_bytes value) buf.old at }
 {
     write_int(value, buf, at)
+}
+
+#[cfg(test)]
+mod tests {
+    use super::*;
+    use crate::VarInt;
+    use std::test::Fail;
+
+    // A number with a mark beside it: two values have one number.
+    #[derive(Clone, Copy)]
+    struct Marked {
+        number: i64,
+        marked: bool,
+    }
+
+    impl Integer for Marked {
+        ghost use Rattle.std.proofs.Common.{leb-true, refl};
+
+        ghost bits = { 64 };
+
+        ghost int = { λ m. m.number };
+
+        fn narrow(value: i64) -> Option<Marked> {
+            Some(Marked {
+                number: value,
+                marked: true,
+            })
+        }
+
+        fn wide(self) -> i64 {
+            self.number
+        }
+
+        ghost at_most = { leb-true 64 64 refl };
+    }
+
+    // Two values of a type that is read may share a number.
+    #[test]
+    fn marked_numbers_are_read(rt: HostRuntime) -> Result<(), Fail> {
+        let read: Read<Marked> = read_int(&[0x41], 0)?;
+        assert_eq!(rt; read.value.number, -1);
+        assert_eq!(rt; read.next, 1);
+        assert!(rt; read.value.marked);
+        let mut bytes = [0u8; 2];
+        assert_eq!(rt; VarInt::write(read.value, &mut bytes, 1)?, 2);
+        assert_eq!(rt; bytes.as_slice(), [0, 0x41].as_slice());
+        Ok(())
+    }
 }

@@ -33,8 +33,6 @@ pub trait Unsigned: Copy {
     ghost at_least: { 32 ≤ bits };
 
     ghost at_most: { bits ≤ 64 };
-
-    ghost one: { (x y : Self) → number x ≡ number y → x ≡ y };
 }
 
 impl Unsigned for u64 {
@@ -57,8 +55,6 @@ impl Unsigned for u64 {
     ghost at_least = { leb-true 32 64 refl };
 
     ghost at_most = { leb-true 64 64 refl };
-
-    ghost one = { λ x y same. same };
 }
 
 impl Unsigned for u32 {
@@ -81,7 +77,18 @@ impl Unsigned for u32 {
     ghost at_least = { leb-true 32 32 refl };
 
     ghost at_most = { leb-true 32 64 refl };
+}
 
+/// A width whose values are told apart by their numbers, so that what is read at it is determined.
+pub trait DistinctUnsigned: Unsigned {
+    ghost one: { (x y : Self) → Self.number x ≡ Self.number y → x ≡ y };
+}
+
+impl DistinctUnsigned for u64 {
+    ghost one = { λ x y same. same };
+}
+
+impl DistinctUnsigned for u32 {
     ghost one = { λ x y same. same };
 }
 
@@ -352,4 +359,59 @@ fn read_on<T: Unsigned>(bytes: &[u8], at: usize, s: Begun) -> Result<Read<T>, Re
         }
     }
     Err(Refusal::Long)
+}
+
+#[cfg(test)]
+mod tests {
+    use super::*;
+    use std::test::Fail;
+
+    // A number with a mark beside it: two values have one number.
+    #[derive(Clone, Copy)]
+    struct Marked {
+        number: u32,
+        marked: bool,
+    }
+
+    impl Unsigned for Marked {
+        ghost use Rattle.std.proofs.Common.{leb-true, refl};
+
+        ghost bits = { 32 };
+
+        ghost number = { λ m. m.number };
+
+        fn low(value: u64) -> Marked {
+            Marked {
+                number: u32::low(value),
+                marked: true,
+            }
+        }
+
+        fn join(self, byte: u8, shift: u32) -> Marked {
+            Marked {
+                number: self.number.join(byte, shift),
+                marked: self.marked,
+            }
+        }
+
+        fn wide(self) -> u64 {
+            self.number.wide()
+        }
+
+        ghost at_least = { leb-true 32 32 refl };
+
+        ghost at_most = { leb-true 32 64 refl };
+    }
+
+    // Two values of a type that is read may share a number.
+    #[test]
+    fn marked_numbers_are_read(rt: HostRuntime) -> Result<(), Fail> {
+        let read: Read<Marked> = read_number(&[0xAC, 0x02], 0)?;
+        assert_eq!(rt; read.value.number, 300);
+        assert_eq!(rt; read.next, 2);
+        assert!(rt; read.value.marked);
+        let again: Read<Marked> = read_var_number(&[0xAC, 0x02], 1)?;
+        assert_eq!(rt; again.value.number, 2);
+        Ok(())
+    }
 }

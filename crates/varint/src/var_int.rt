@@ -7,7 +7,7 @@ ghost use Rattle.varint.specs.Number.{read_at, narrowed, bytes_of, write_at};
 ghost use Rattle.varint.specs.Integer.{IntAnswer, signed_at, plain, fitting, int_bytes};
 ghost use Rattle.varint.specs.Answer.{said_int, plain_int, wrote};
 
-use crate::signed_numbers::{Integer, read_int, write_i64};
+use crate::signed_numbers::{DistinctInteger, Integer, read_int, write_i64};
 use crate::unsigned_numbers::{read_u8, read_u32, read_u64, read_usize, write_u64};
 use crate::{Read, Refusal};
 
@@ -33,8 +33,6 @@ pub trait VarInt: Copy {
     fn write(self, buf: &mut [u8], at: usize) -> Result<usize, Refusal>
         ensures wrote { wrote at result buf.new ≡ write_at (spelled self) buf.old at }
         ensures back { IfOk result (λ p. read_gives buf.new at ≡ record { no = 0; value = int self; negative = false; place = p }) };
-
-    ghost one: { (x y : Self) → int x ≡ int y → x ≡ y };
 }
 
 impl VarInt for u64 {
@@ -51,8 +49,6 @@ impl VarInt for u64 {
     fn write(self, buf: &mut [u8], at: usize) -> Result<usize, Refusal> {
         write_u64(self, buf, at)
     }
-
-    ghost one = { λ x y same. ap nat_abs same };
 }
 
 impl VarInt for usize {
@@ -69,8 +65,6 @@ impl VarInt for usize {
     fn write(self, buf: &mut [u8], at: usize) -> Result<usize, Refusal> {
         write_u64(self as u64, buf, at)
     }
-
-    ghost one = { λ x y same. ap nat_abs same };
 }
 
 impl VarInt for u32 {
@@ -87,8 +81,6 @@ impl VarInt for u32 {
     fn write(self, buf: &mut [u8], at: usize) -> Result<usize, Refusal> {
         write_u64(self as u64, buf, at)
     }
-
-    ghost one = { λ x y same. ap nat_abs same };
 }
 
 impl VarInt for u8 {
@@ -105,8 +97,6 @@ impl VarInt for u8 {
     fn write(self, buf: &mut [u8], at: usize) -> Result<usize, Refusal> {
         write_u64(self as u64, buf, at)
     }
-
-    ghost one = { λ x y same. ap nat_abs same };
 }
 
 impl<T: Integer> VarInt for T {
@@ -123,6 +113,29 @@ impl<T: Integer> VarInt for T {
     fn write(self, buf: &mut [u8], at: usize) -> Result<usize, Refusal> {
         write_i64(self.wide(), buf, at)
     }
+}
 
+/// A width whose values are told apart by their numbers, so that what is read at it is determined: each of the nine.
+pub trait DistinctVarInt: VarInt {
+    ghost one: { (x y : Self) → Self.int x ≡ Self.int y → x ≡ y };
+}
+
+impl DistinctVarInt for u64 {
+    ghost one = { λ x y same. ap nat_abs same };
+}
+
+impl DistinctVarInt for usize {
+    ghost one = { λ x y same. ap nat_abs same };
+}
+
+impl DistinctVarInt for u32 {
+    ghost one = { λ x y same. ap nat_abs same };
+}
+
+impl DistinctVarInt for u8 {
+    ghost one = { λ x y same. ap nat_abs same };
+}
+
+impl<T: DistinctInteger> DistinctVarInt for T {
     ghost one = { T.one };
 }

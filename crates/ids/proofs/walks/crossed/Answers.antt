@@ -11,7 +11,7 @@ pub returns-in-Err-b-clause-laid : goal.returns-in-Err-b-clause-laid
 returns-in-Err-b-clause-laid c = denied _ (both_second c.in-Ok.is c.in-Err-b.is) c.settled-in-Err-b.ensures.made c.settled-in-Err-b.ensures.zeroed
 
 pub returns-clause-laid : goal.returns-clause-laid
-returns-clause-laid c = laid (c.in-Ok.a, c.in-Ok-b.b) (both_ok c.in-Ok.is c.in-Ok-b.is) c.cross.ensures.lays
+returns-clause-laid c = laid (c.in-Ok.a, c.in-Ok-b.b) (both_ok c.in-Ok.is c.in-Ok-b.is) c.lay_intersection.ensures.lays
 
 pub returns-clause-same : goal.returns-clause-same
-returns-clause-same c = same_shape c.cross.ensures.same
+returns-clause-same c = same_shape c.lay_intersection.ensures.same

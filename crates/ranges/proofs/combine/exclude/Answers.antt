@@ -11,4 +11,4 @@ pub returns-in-Err-checked : goal.returns-in-Err-checked
 returns-in-Err-checked c = zeroed _ (c.in-Err-checked.ensures.0, λ t. c.in-Err-checked.ensures.1 t.1) c.settled-in-Err-checked.ensures.same c.settled-in-Err-checked.ensures.left
 
 pub returns : goal.returns
-returns c = finished _ c.differ.result difference_means c.in-Ok.ensures c.in-Ok-checked.ensures c.differ.ensures.lays (search rules)
+returns c = finished _ c.lay_difference.result difference_means c.in-Ok.ensures c.in-Ok-checked.ensures c.lay_difference.ensures.lays (search rules)

@@ -11,4 +11,4 @@ pub returns-in-Err-checked : goal.returns-in-Err-checked
 returns-in-Err-checked c = zeroed _ (c.in-Err-checked.ensures.0, λ t. c.in-Err-checked.ensures.1 t.1) c.settled-in-Err-checked.ensures.same c.settled-in-Err-checked.ensures.left
 
 pub returns : goal.returns
-returns c = finished _ c.cross.result intersection_means c.in-Ok.ensures c.in-Ok-checked.ensures c.cross.ensures.lays (search rules)
+returns c = finished _ c.lay_intersection.result intersection_means c.in-Ok.ensures c.in-Ok-checked.ensures c.lay_intersection.ensures.lays (search rules)

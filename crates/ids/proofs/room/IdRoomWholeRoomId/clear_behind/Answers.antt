@@ -1,7 +1,7 @@
 -- The rows that stay are those in front.
 use Rattle.ids.proofs.Numbering.{narrow}
 use Rattle.ids.proofs.Answering.{room_cleared, room_stays}
-use Rattle.ids.proofs.room.IdRoomRoomId.clear_behind.Goals as goal
+use Rattle.ids.proofs.room.IdRoomWholeRoomId.clear_behind.Goals as goal
 
 pub returns-then-count-capacity-clause-cleared : goal.returns-then-count-capacity-clause-cleared
 returns-then-count-capacity-clause-cleared c = λ h.

@@ -3,7 +3,7 @@
 use Rattle.std.proofs.Common.{◌≡◌, ◌+◌, ◌-◌}
 use Rattle.tables.proofs.Meeting.{Meeting}
 use Rattle.tables.proofs.Gaps.{gaps}
-use Rattle.tables.proofs.difference.differ_rows.Given as goal
+use Rattle.tables.proofs.difference.differ.Given as goal
 
 abbrev pub invariant-top : goal.invariant-top
 invariant-top g l = record {

@@ -2,7 +2,7 @@
 use Rattle.std.proofs.Common.{◌≡◌, ◌+◌, ◌-◌}
 use Rattle.tables.specs.Inner.Ends.{Turns}
 use Rattle.tables.proofs.Meeting.{Meeting}
-use Rattle.tables.proofs.walking.cross_rows.Given as goal
+use Rattle.tables.proofs.walking.cross.Given as goal
 
 abbrev pub invariant-both : goal.invariant-both
 invariant-both g l = record {

@@ -1,6 +1,6 @@
 use Rattle.std.proofs.Common.{◌≡◌, ◌+◌, ◌-◌}
 use Rattle.tables.specs.Inner.Merge.{Far}
-use Rattle.tables.proofs.merging.unite_rows.Given as goal
+use Rattle.tables.proofs.merging.unite.Given as goal
 
 abbrev pub invariant-both : goal.invariant-both
 invariant-both g l = record {

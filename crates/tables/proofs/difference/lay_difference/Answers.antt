@@ -1,0 +1,13 @@
+-- The rows that were laid, and what their count says.
+use mathlib.Core.Path.{ap, sym}
+use Rattle.tables.proofs.Joins.{holds_in}
+use Rattle.tables.proofs.Filling.{lays_in}
+use Rattle.tables.proofs.difference.lay_difference.Goals as goal
+
+pub returns-clause-lays : goal.returns-clause-lays
+returns-clause-lays g c =
+    lays_in g.R.Room.most g.R.WholeRoom.fill c.finish.result c.differ-count.ensures.same
+    (c.finish.ensures.lays _ (holds_in (ap g.R.Room.most (sym c.differ-count.ensures.same)) c.differ-count.ensures.holds))
+
+pub returns-clause-holds : goal.returns-clause-holds
+returns-clause-holds g c = c.finish.ensures.holds _ (holds_in (ap g.R.Room.most (sym c.differ-count.ensures.same)) c.differ-count.ensures.holds)
