@@ -12,7 +12,7 @@ use std::io::{Read, Write};
 /// How many bytes a block has.
 const BLOCK: u64 = 65536;
 
-/// What a program answers to a line.
+/// What a program answers to a line. Nothing is asked of what it leaves in the room.
 pub trait Answers {
     /// Says the answer to a line, by its letter and its numbers.
     ///
@@ -21,7 +21,8 @@ pub trait Answers {
     fn answer(&self, letter: u8, numbers: Numbers, said: &mut Room<u64>) -> Result<(), AllocError>;
 }
 
-/// The same, said in the memory that the room has: whoever lends it knows that the answer stands there.
+/// What a program answers to a line, said in the memory that the room has: whoever lends it knows that the answer stands there. What implements it has
+/// [`Answers`], and so serves [`replay`].
 pub trait AnswersInPlace {
     /// Says the answer to a line, by its letter and its numbers.
     ///

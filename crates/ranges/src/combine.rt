@@ -81,7 +81,7 @@ mod tests {
     use tables::merging::unite;
     use tables::walking::cross;
 
-    // The loops under the three: the rows that fit, and how many there are.
+    // The loops under the three: the rows, and how many there are, where they fit.
     #[test]
     fn rows_are_counted(rt: HostRuntime) -> Result<(), Fail> {
         let a = Ranges::checked(&[1, 4, 6, 9], 2)?;

@@ -145,8 +145,9 @@ fn gaps_to<P: Place, T: Table<P>>(b: T) -> usize
     m
 }
 
-/// The rows of the difference of two tables, of any kind of rows: as many as there is room for, and how many there are, as [`cross`](crate::walking::cross).
-/// The gaps at either end go step by step, those inside in turns of both walks. `exclude` of yrs's range tables, `diff` of its id sets.
+/// The rows of the difference of two tables, of any kind of rows, in `out`: answers how many rows there are, or a number above the capacity of `out`, as
+/// [`cross`](crate::walking::cross). The gaps at either end go step by step, those inside in turns of both walks. `exclude` of yrs's range tables, `diff` of its
+/// id sets.
 pub fn differ<P: Place, T: Table<P>, R: Room<P>>(a: T, b: T, out: &mut R) -> usize
     ensures holds { Holds (R.most (R.shape out.old)) (R.row_of out.new) result (combined difference (span (T.row_of a) 0 (T.count a)) (span (T.row_of b) 0 (T.count b))) }
     ensures same { R.shape out.new ≡ R.shape out.old }

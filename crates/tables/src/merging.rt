@@ -381,8 +381,8 @@ fn most_rows<P: Place, T: Table<P>, R: Room<P>>(a: T, b: T, out: &mut R, most: u
     }
 }
 
-/// The rows of the union of two tables, of any kind of rows: as many as there is room for, and how many there are, as [`cross`](crate::walking::cross).
-/// `merge` of yrs's range tables and id sets.
+/// The rows of the union of two tables, of any kind of rows, in `out`: answers how many rows there are, or a number above the capacity of `out`, as
+/// [`cross`](crate::walking::cross). `merge` of yrs's range tables and id sets.
 pub fn unite<P: Place, T: Table<P>, R: Room<P>>(a: T, b: T, out: &mut R) -> usize
     ensures holds { Holds (R.most (R.shape out.old)) (R.row_of out.new) result (combined union (span (T.row_of a) 0 (T.count a)) (span (T.row_of b) 0 (T.count b))) }
     ensures same { R.shape out.new ≡ R.shape out.old }

@@ -310,8 +310,9 @@ fn bounds<P: Place, T: Table<P>>(a: T, b: T, most: usize) -> Walks
     }
 }
 
-/// The rows of the intersection of two tables, of any kind of rows: as many as there is room for, and how many there are. Where they are more than `out` holds,
-/// the answer is above its capacity, and what stands in `out` is of no use. `intersect` of yrs's range tables and id sets.
+/// The rows of the intersection of two tables, of any kind of rows, in `out`: answers how many rows there are. Where they are more than `out` holds, the answer is
+/// some number above its capacity, and what stands in `out` is of no use. What stands behind the rows is not said: [`lay_intersection`] zeroes it. `intersect` of
+/// yrs's range tables and id sets.
 pub fn cross<P: Place, T: Table<P>, R: Room<P>>(a: T, b: T, out: &mut R) -> usize
     ensures holds { Holds (R.most (R.shape out.old)) (R.row_of out.new) result (combined intersection (span (T.row_of a) 0 (T.count a)) (span (T.row_of b) 0 (T.count b))) }
     ensures same { R.shape out.new ≡ R.shape out.old }
